@@ -3,7 +3,7 @@
 ghost use mathlib.Core.Path.{_≡_};
 ghost use mathlib.Core.List.{_++_, _∷_, []};
 ghost use mathlib.Core.Bool.{cond};
-ghost use Prim.Native.Nat.{_<_};
+ghost use Prim.Native.Nat.{_≤_};
 ghost use lib.Dec.{ltb};
 ghost use lib.ListN.{length};
 ghost use Rattle.room.specs.Listed.{listed};
@@ -28,7 +28,8 @@ impl<T: Copy, const N: usize> ArrayVec<T, N> {
 
     /// The items, in order.
     pub fn as_slice(&self) -> &[T]
-        ensures { λ r. ⌜ now r ≡ listed (now (self .entry)) ⌝ }
+        ensures items { λ r. ⌜ now r ≡ listed (now (self .entry)) ⌝ }
+        ensures bound { λ r. ⌜ length (now r) ≤ N ⌝ }
     {
         let slots = &self.slots[..];
         if self.len < N {
