@@ -1,0 +1,4 @@
+pub mod Cells
+pub mod Extents
+pub mod Front
+pub mod Modes

@@ -1,0 +1,4 @@
+pub mod Announced
+pub mod Forms
+pub mod Outcome
+pub mod Words
