@@ -17,6 +17,7 @@ use text::numerals::Numbers;
 use text::numerals::numbers;
 
 /// A line of an order in a room of this many axes and pieces.
+#[derive(Drop)]
 pub struct BeforeLine {
     pub axes: usize,
     pub pieces: usize,

@@ -98,6 +98,7 @@ impl Announced {
 }
 
 /// The first line of a sheet.
+#[derive(Drop)]
 pub struct ContentsLine {}
 
 pub impl LineForm for ContentsLine as ReadsContents {

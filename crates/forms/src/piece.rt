@@ -20,6 +20,7 @@ use text::numerals::numbers;
 pub type Extents = ArrayVec<Extent, MAX_AXES>;
 
 /// A line of a piece on this many axes.
+#[derive(Drop)]
 pub struct PieceLine {
     pub axes: usize,
     ghost few: { axes ≤ 3 },

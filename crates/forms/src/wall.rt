@@ -17,6 +17,7 @@ use room::walls::Cell;
 use room::walls::Row;
 
 /// A line of a wall row.
+#[derive(Drop)]
 pub struct WallLine {}
 
 fn cell(letter: u8) -> Option<Cell>

@@ -1,3 +1,5 @@
+pub mod Fits
+pub mod Held
 pub mod Lay
 pub mod Meaning
 pub mod Plan

@@ -47,18 +47,18 @@ abbrev pub no-more : ℕ → List Line → Plan → Result Plan Refusal
 no-more number [] p = Ok p
 no-more number (l ∷ ls) p = Err (LineLeftOver number)
 
--- the lines after the contents: the pieces, the orders, the wall rows
+-- what the lines after the contents say: the pieces, the orders, the wall rows
 abbrev pub bodies : Contents → List Line → Result Plan Refusal
 bodies c ls =
-    and-then (each-says (says-piece (c .axes)) 2 (c .pieces) (drop 1 ls)) (λ pieces.
-    and-then (each-says (says-before (c .axes) (c .pieces)) (2 + c .pieces) (c .orders) (drop (1 + c .pieces) ls)) (λ orders.
-    and-then (each-says says-wall (2 + c .pieces + c .orders) (c .rows) (drop (1 + c .pieces + c .orders) ls)) (λ rows.
-    no-more (2 + c .pieces + c .orders + c .rows) (drop (1 + c .pieces + c .orders + c .rows) ls)
+    and-then (each-says (says-piece (c .axes)) 2 (c .pieces) ls) (λ pieces.
+    and-then (each-says (says-before (c .axes) (c .pieces)) (2 + c .pieces) (c .orders) (drop (c .pieces) ls)) (λ orders.
+    and-then (each-says says-wall (2 + c .pieces + c .orders) (c .rows) (drop (c .pieces + c .orders) ls)) (λ rows.
+    no-more (2 + c .pieces + c .orders + c .rows) (drop (c .pieces + c .orders + c .rows) ls)
       (record { axes = c .axes; mode = c .mode; pieces = pieces; orders = orders; rows = rows }))))
 
 -- what the lines of a sheet say: line 1 announces the rest
 abbrev pub lines-say : List Line → Result Plan Refusal
-lines-say ls = and-then (line-says says-contents 1 ls) (λ c. bodies c ls)
+lines-say ls = and-then (line-says says-contents 1 ls) (λ c. bodies c (drop 1 ls))
 
 -- what a text says
 abbrev pub meaning : List ℕ → Result Plan Refusal

@@ -1,8 +1,7 @@
 -- What a sheet says of a room.
 use Prim.Native.Nat.{ℕ}
-use mathlib.Core.List.{List, map}
+use mathlib.Core.List.{List}
 use lib.ListN.{length}
-use Rattle.room.specs.Listed.{listed}
 use Rattle.room.specs.declared.orders.Order.{Order}
 use Rattle.room.specs.declared.piece.Extent.{Extent}
 use Rattle.room.specs.declared.walls.Cell.{Cell}
