@@ -57,6 +57,7 @@ push-within n xs x = ⊎-elim room full (cases-lt (length xs) n)
         cond-true _ _ _ (lt-ltb (length (take n xs)) n (omega (arith, length-take n xs)))
         ∙ ap (λ l. l ++ (x ∷ [])) (take-all n xs (omega arith))
         ∙ sym (take-all n (xs ++ (x ∷ [])) (omega (arith, length-push xs x)))
+
     full : n ≤ length xs → cond (ltb (length (take n xs)) n) (take n xs ++ (x ∷ [])) (take n xs) ≡ take n (xs ++ (x ∷ []))
     full h = cond-false _ _ _ (le-ltb (length (take n xs)) n (omega (arith, length-take n xs))) ∙ sym (take-append-le n xs (x ∷ []) h)
 
@@ -80,6 +81,7 @@ from-cells letters xs (Some ds) e h = ⊎-elim many few (cases-lt 64 (length let
   where
     many : 64 < length letters → cond (leb (length ds) 64) (Ok ds) (Err Range) ≡ cond (leb (length letters) 64) (Ok xs) (Err Range)
     many m = cond-false _ _ _ (lt-leb (length ds) 64 (omega (arith, length-cells letters ds e))) ∙ sym (cond-false _ _ _ (lt-leb (length letters) 64 m))
+
     few : length letters ≤ 64 → cond (leb (length ds) 64) (Ok ds) (Err Range) ≡ cond (leb (length letters) 64) (Ok xs) (Err Range)
     few m =
         let t : xs ≡ take 64 ds = cc in

@@ -25,8 +25,8 @@ judged-ok {A} (Some x) fits value y e = split e
   where
     split : cond (fits x) (Ok (value x)) (Err Range) ≡ Ok y → (w : A) × (Some x ≡ Some w) × (fits w ≡ true) × (value w ≡ y)
     split = cond-both (fits x) (Ok (value x)) (Err Range) (λ r. r ≡ Ok y → (w : A) × (Some x ≡ Some w) × (fits w ≡ true) × (value w ≡ y))
-      (λ h k. let v : value x ≡ y = cc in (x, refl, h, v))
-      (λ h k. absurd (let z : _≡_ {A = ℕ} 0 1 = cc in omega arith))
+        (λ h k. let v : value x ≡ y = cc in (x, refl, h, v))
+        (λ h k. absurd (let z : _≡_ {A = ℕ} 0 1 = cc in omega arith))
 
 -- a number between two counts is a count between them
 pub between-count : (low high : ℕ) (z : ℤ) → between low high z ≡ true → (low ≤ count z) × (count z ≤ high)

@@ -36,13 +36,13 @@ same-extent axes ns ms d same h =
 pub same-extents : (axes : ℕ) (ns ms : List ℤ) → ((i : ℕ) → i < 3 * axes → getD ns i (pos 0) ≡ getD ms i (pos 0)) → extents axes ns ≡ extents axes ms
 same-extents axes ns ms same =
     fill-by-all (extent-at axes ms) (extents axes ns) axes (extent-at axes ns 0) (length-map-counting (extent-at axes ns) 0 axes)
-      (λ k h. getD-map-counting (extent-at axes ns) 0 axes k k (extent-at axes ns 0) h (omega arith) ∙ same-extent axes ns ms k same h)
+    (λ k h. getD-map-counting (extent-at axes ns) 0 axes k k (extent-at axes ns 0) h (omega arith) ∙ same-extent axes ns ms k same h)
 
 pub piece-said : (axes : ℕ) (body text : List ℕ) (found : List ℤ) (es : List Extent) → axes ≤ 3
-  → Some text ≡ after (codes "piece ") body
-  → Some (take (3 * axes) found) ≡ cond (leb (3 * axes) 9) (numbers (3 * axes) (items text)) None
-  → es ≡ extents axes found
-  → says-piece axes body ≡ cond (extents-fit es) (Ok es) (Err Range)
+    → Some text ≡ after (codes "piece ") body
+    → Some (take (3 * axes) found) ≡ cond (leb (3 * axes) 9) (numbers (3 * axes) (items text)) None
+    → es ≡ extents axes found
+    → says-piece axes body ≡ cond (extents-fit es) (Ok es) (Err Range)
 piece-said axes body text found es few word read made =
     let numbers-are : numbers (3 * axes) (items text) ≡ Some (take (3 * axes) found) = sym (cond-true _ _ _ (le-leb (3 * axes) 9 (omega arith))) ∙ sym read in
     let es-are : extents axes (take (3 * axes) found) ≡ es = same-extents axes (take (3 * axes) found) found (λ i h. getD-take (3 * axes) found i (pos 0) h) ∙ sym made in

@@ -49,8 +49,8 @@ after-back [] l t e = cc
 after-back (c ∷ p) [] t e = absurd (let z : _≡_ {A = ℕ} 0 1 = cc in omega arith)
 after-back (c ∷ p) (d ∷ l) t e =
     let split = cond-both (eqb c d) (after p l) None (λ o. o ≡ Some t → d ∷ l ≡ (c ∷ p) ++ t)
-          (λ h k. let i = eqb-true c d h in let j = after-back p l t k in cc)
-          (λ h k. absurd (let z : _≡_ {A = ℕ} 0 1 = cc in omega arith)) in
+    (λ h k. let i = eqb-true c d h in let j = after-back p l t k in cc)
+    (λ h k. absurd (let z : _≡_ {A = ℕ} 0 1 = cc in omega arith)) in
     split e
 
 pub after-none : (p l : List ℕ) → ((t : List ℕ) → l ≡ p ++ t → ⊥) → after p l ≡ None

@@ -6,7 +6,7 @@ ghost use mathlib.Core.List.{List};
 ghost use Prim.Native.Nat.{ℕ};
 ghost use lib.ListN.{take};
 ghost use Rattle.std.specs.Options.{Cases as BySome, mapped};
-ghost use Rattle.std.specs.declared.result.Result.the-variants.{Ok, Err};
+ghost use Rattle.std.specs.declared.option.Option.the-variants.{Some};
 ghost use Rattle.forms.specs.Forms.{mode-word, says-contents, contents-items, contents-fit, contents-from};
 ghost use Rattle.forms.specs.Announced.{told-by};
 ghost use Rattle.forms.specs.declared.contents.Contents.{Contents as ContentsT};
@@ -22,6 +22,8 @@ use room::limits::MAX_AXES;
 use room::limits::MAX_ORDERS;
 use room::limits::MAX_PIECES;
 use room::limits::MAX_ROWS;
+use std::fmt;
+use std::fmt::Display;
 use text::items::split_item;
 use text::numerals::Numbers;
 use text::numerals::numbers;
@@ -32,6 +34,17 @@ use text::numerals::numeral;
 pub enum Mode {
     Strict,
     Nonstrict,
+}
+
+pub impl Display for Mode as ModeDisplay {
+    ghost shown = { λ m. Some (mode-word m) };
+
+    fn fmt<W: fmt::Write>(&self, f: &mut fmt::Formatter<W>) -> fmt::Result {
+        match self {
+            Mode::Strict => f.write_str("strict"),
+            Mode::Nonstrict => f.write_str("nonstrict"),
+        }
+    }
 }
 
 /// What the first line of a sheet announces.

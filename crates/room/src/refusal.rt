@@ -55,7 +55,11 @@ impl Refusal {
             Refusal::OutOfRange { layer, line } => (5, layer, line),
             Refusal::MemoryShort { layer } => (6, layer, 0),
         };
-        Told { number, layer, line }
+        Told {
+            number,
+            layer,
+            line,
+        }
     }
 }
 
@@ -75,7 +79,11 @@ pub impl Display for Refusal as RefusalDisplay {
     ghost shown = { λ e. Some (refusal-line e) };
 
     fn fmt<W: fmt::Write>(&self, f: &mut fmt::Formatter<W>) -> fmt::Result {
-        let Told { number, layer, line } = self.tell();
+        let Told {
+            number,
+            layer,
+            line,
+        } = self.tell();
         write!(f, "refused {number} {layer} {line}")
     }
 }

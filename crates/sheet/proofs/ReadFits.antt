@@ -37,10 +37,10 @@ plan-of c pieces orders rows = record { axes = c .axes; mode = c .mode; pieces =
 module _ (c : Contents) (within : Within c) where
   -- parts that are as many as the contents announce, each within its limits, make a plan within the limits
   parts-fit : (pieces : List (List Extent)) (orders : List Order) (rows : List (List Cell))
-    → (length pieces ≡ c .pieces) × All (Piece-fits (c .axes)) pieces
-    → (length orders ≡ c .orders) × All (Order-fits (c .axes) (c .pieces)) orders
-    → (length rows ≡ c .rows) × All Row-fits rows
-    → Fits (plan-of c pieces orders rows)
+      → (length pieces ≡ c .pieces) × All (Piece-fits (c .axes)) pieces
+      → (length orders ≡ c .orders) × All (Order-fits (c .axes) (c .pieces)) orders
+      → (length rows ≡ c .rows) × All Row-fits rows
+      → Fits (plan-of c pieces orders rows)
   parts-fit pieces orders rows ps os rs =
       let pieces-are = ps .0 in
       let orders-are = os .0 in
@@ -59,10 +59,10 @@ module _ (c : Contents) (within : Within c) where
 
   -- the same, of the plan that is read where no line is left over
   ending-fits : (number : ℕ) (ls : List Line) (p : Plan) (pieces : List (List Extent)) (orders : List Order) (rows : List (List Cell))
-    → (length pieces ≡ c .pieces) × All (Piece-fits (c .axes)) pieces
-    → (length orders ≡ c .orders) × All (Order-fits (c .axes) (c .pieces)) orders
-    → (length rows ≡ c .rows) × All Row-fits rows
-    → no-more number ls (plan-of c pieces orders rows) ≡ Ok p → Fits p
+      → (length pieces ≡ c .pieces) × All (Piece-fits (c .axes)) pieces
+      → (length orders ≡ c .orders) × All (Order-fits (c .axes) (c .pieces)) orders
+      → (length rows ≡ c .rows) × All Row-fits rows
+      → no-more number ls (plan-of c pieces orders rows) ≡ Ok p → Fits p
   ending-fits number ls p pieces orders rows ps os rs e =
       subst Fits (no-more-ok number ls (plan-of c pieces orders rows) p e) (parts-fit pieces orders rows ps os rs)
 
@@ -77,10 +77,10 @@ module _ (c : Contents) (within : Within c) where
       let os = and-then-ok order-lines (λ orders. and-then wall-lines (λ rows. ending (ps .0) orders rows)) p (ps .2) in
       let rs = and-then-ok wall-lines (λ rows. ending (ps .0) (os .0) rows) p (os .2) in
       ending-fits (2 + c .pieces + c .orders + c .rows) (drop (c .pieces + c .orders + c .rows) ls) p (ps .0) (os .0) (rs .0)
-        (each-says-all (Piece-fits (c .axes)) (says-piece (c .axes)) (piece-fits (c .axes)) 2 (c .pieces) ls (ps .0) (ps .1))
-        (each-says-all (Order-fits (c .axes) (c .pieces)) (says-before (c .axes) (c .pieces)) (order-line-fits (c .axes) (c .pieces)) (2 + c .pieces) (c .orders) (drop (c .pieces) ls) (os .0) (os .1))
-        (each-says-all Row-fits says-wall wall-line-fits (2 + c .pieces + c .orders) (c .rows) (drop (c .pieces + c .orders) ls) (rs .0) (rs .1))
-        (rs .2)
+      (each-says-all (Piece-fits (c .axes)) (says-piece (c .axes)) (piece-fits (c .axes)) 2 (c .pieces) ls (ps .0) (ps .1))
+      (each-says-all (Order-fits (c .axes) (c .pieces)) (says-before (c .axes) (c .pieces)) (order-line-fits (c .axes) (c .pieces)) (2 + c .pieces) (c .orders) (drop (c .pieces) ls) (os .0) (os .1))
+      (each-says-all Row-fits says-wall wall-line-fits (2 + c .pieces + c .orders) (c .rows) (drop (c .pieces + c .orders) ls) (rs .0) (rs .1))
+      (rs .2)
 
 -- what the lines of a sheet say is within the limits
 lines-fit : (ls : List Line) (p : Plan) → lines-say ls ≡ Ok p → Fits p
@@ -93,6 +93,6 @@ lines-fit ls p e =
 pub read-fits : (text : List ℕ) (p : Plan) → meaning text ≡ Ok p → Fits p
 read-fits text p e =
     cond-both (ltb max-sheet (length text)) (Err SheetTooLong) (lines-say (lines text)) (λ r. r ≡ Ok p → Fits p)
-      (λ h k. absurd (let z : _≡_ {A = ℕ} 0 1 = cc in omega arith))
-      (λ h k. lines-fit (lines text) p k)
-      e
+    (λ h k. absurd (let z : _≡_ {A = ℕ} 0 1 = cc in omega arith))
+    (λ h k. lines-fit (lines text) p k)
+    e

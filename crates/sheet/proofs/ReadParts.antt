@@ -65,7 +65,7 @@ line-says-ok says number ls x e =
 
 -- lines that are read are as many as were announced, and what holds of all that such a line can say holds of each
 pub each-says-all : {A : Type 0} (P : A → Type 0) (says : List ℕ → Result A Fault) → ((body : List ℕ) (x : A) → says body ≡ Ok x → P x)
-  → (number n : ℕ) (ls : List Line) (xs : List A) → each-says says number n ls ≡ Ok xs → (length xs ≡ n) × All P xs
+    → (number n : ℕ) (ls : List Line) (xs : List A) → each-says says number n ls ≡ Ok xs → (length xs ≡ n) × All P xs
 each-says-all P says sound number zero ls xs e =
     let v : [] ≡ xs = cc in
     subst (λ l. (length l ≡ 0) × All P l) v (refl, tt)

@@ -54,7 +54,7 @@ bodies c ls =
     and-then (each-says (says-before (c .axes) (c .pieces)) (2 + c .pieces) (c .orders) (drop (c .pieces) ls)) (λ orders.
     and-then (each-says says-wall (2 + c .pieces + c .orders) (c .rows) (drop (c .pieces + c .orders) ls)) (λ rows.
     no-more (2 + c .pieces + c .orders + c .rows) (drop (c .pieces + c .orders + c .rows) ls)
-      (record { axes = c .axes; mode = c .mode; pieces = pieces; orders = orders; rows = rows }))))
+    (record { axes = c .axes; mode = c .mode; pieces = pieces; orders = orders; rows = rows }))))
 
 -- what the lines of a sheet say: line 1 announces the rest
 abbrev pub lines-say : List Line → Result Plan Refusal

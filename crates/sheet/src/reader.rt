@@ -88,7 +88,13 @@ fn read_bodies(contents: &Contents, text: &[u8]) -> Result<Sheet, Refusal>
         gap: 0,
     };
     let read = read_each(&PieceLine { axes }, no_extents(), text, 2, pieces)?;
-    let ordered = read_each(&BeforeLine { axes, pieces }, no_order, read.rest, 2 + pieces, orders)?;
+    let ordered = read_each(
+        &BeforeLine { axes, pieces },
+        no_order,
+        read.rest,
+        2 + pieces,
+        orders,
+    )?;
     let walled = read_each(
         &WallLine {},
         ArrayVec::new(Cell::Open),

@@ -62,7 +62,11 @@ fn take_line(text: &[u8], number: usize) -> Result<Taken<'_>, Refusal>
 }
 
 /// Reads the next line, which has this number and is of this form.
-pub fn read_line<'a, L: LineForm>(form: &L, text: &'a [u8], number: usize) -> Result<Read<'a, L::Item>, Refusal>
+pub fn read_line<'a, L: LineForm>(
+    form: &L,
+    text: &'a [u8],
+    number: usize,
+) -> Result<Read<'a, L::Item>, Refusal>
     ensures { λ r. ⌜ Cases r (λ l. (line-says (says (now (form .entry))) number (lines (now (text .entry))) ≡ Ok (denotes (l .item))) × (lines (now (l .rest)) ≡ drop 1 (lines (now (text .entry))))) (λ e. line-says (says (now (form .entry))) number (lines (now (text .entry))) ≡ Err e) ⌝ }
 {
     let line = take_line(text, number)?;

@@ -20,17 +20,17 @@ returns-in-Break-cell c =
 pub loop-letter-again : need.loop-letter-again
 loop-letter-again c =
     let done = map cell-at (take (c .loop-letter .letter-index) (c .args .letters .now)) in
-    let x = c .in-Continue-cell .field-0 in
-    ( c .push .ensures .items
-      ∙ ap (λ b. cond b (listed (c .loop-letter .row) ++ (x ∷ [])) (listed (c .loop-letter .row))) (c .push .ensures .fits)
-      ∙ ap (λ xs. cond (ltb (length xs) 64) (xs ++ (x ∷ [])) xs) (c .loop-letter .inv .0)
-      ∙ push-within 64 done x
-      ∙ ap (take 64) (ap (λ y. done ++ (y ∷ [])) (cell-at-some _ x (c .in-Continue-cell .ensures tt)) ∙ sym (map-more cell-at (c .args .letters .now) (c .loop-letter .letter-index) 0 (omega arith)))
-    , cells-again (c .args .letters .now) (c .loop-letter .letter-index) (omega arith) x (c .in-Continue-cell .ensures tt) ∙ c .loop-letter .inv .1
+    let x = c .in-Continue-cell .field-0 in (
+      c .push .ensures .items
+          ∙ ap (λ b. cond b (listed (c .loop-letter .row) ++ (x ∷ [])) (listed (c .loop-letter .row))) (c .push .ensures .fits)
+          ∙ ap (λ xs. cond (ltb (length xs) 64) (xs ++ (x ∷ [])) xs) (c .loop-letter .inv .0)
+          ∙ push-within 64 done x
+          ∙ ap (take 64) (ap (λ y. done ++ (y ∷ [])) (cell-at-some _ x (c .in-Continue-cell .ensures tt)) ∙ sym (map-more cell-at (c .args .letters .now) (c .loop-letter .letter-index) 0 (omega arith))),
+      cells-again (c .args .letters .now) (c .loop-letter .letter-index) (omega arith) x (c .in-Continue-cell .ensures tt) ∙ c .loop-letter .inv .1,
     )
 
 pub returns : need.returns
 returns c =
     let done = map cell-at (take (c .loop-letter .letter-index) (c .args .letters .now)) in
     sym (ap (mapped (take 64)) (sym (c .loop-letter .inv .1) ∙ ap (put-cells done) (at-drop-all cells (c .args .letters .now) (c .loop-letter .letter-index) (omega arith)) ∙ ap Some (append-nil done))
-      ∙ ap Some (sym (c .loop-letter .inv .0)))
+    ∙ ap Some (sym (c .loop-letter .inv .0)))

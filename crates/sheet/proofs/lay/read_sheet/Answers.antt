@@ -38,9 +38,9 @@ returns c =
     record {
       answer = ap Ok (c .contents-contents .ensures) ∙ sym (ap (answered (length (c .args .records .now))) (sym said) ∙ cond-false _ _ _ (le-ltb _ _ room));
       records =
-        c .lay-pieces .ensures
-        ∙ ap (λ ps. laid-all ps (c .args .records .now)) (c .pieces .ensures)
-        ∙ sym (ap (λ r. left-in-records r (c .args .records .now)) (sym said) ∙ cond-false _ _ _ (le-ltb _ _ room));
+          c .lay-pieces .ensures
+          ∙ ap (λ ps. laid-all ps (c .args .records .now)) (c .pieces .ensures)
+          ∙ sym (ap (λ r. left-in-records r (c .args .records .now)) (sym said) ∙ cond-false _ _ _ (le-ltb _ _ room));
       walls = ap (map-ok (λ q. q .rows)) (sym said) ∙ ap Ok (sym (c .walls .ensures));
       orders = ap (map-ok (λ q. q .orders)) (sym said) ∙ ap Ok (sym (c .orders .ensures));
     }

@@ -19,7 +19,7 @@ returns-in-Break-walled c =
     let ordered = c .in-Continue-ordered .ensures tt in
     rw (p .1, p .2)
     (sym (walls-refused (c .args .contents .now) (lines (c .args .text .now)) (lines (c .in-Continue-read .read .rest .now)) (lines (c .in-Continue-ordered .ordered .rest .now)) _ (listed (c .in-Continue-ordered .ordered .items))
-      (read .0) (read .1) (ordered .0 ∙ ap Ok (map-id (listed (c .in-Continue-ordered .ordered .items)))) (ordered .1) (c .in-Break-walled .field-0 .0) (c .in-Break-walled .ensures tt)))
+    (read .0) (read .1) (ordered .0 ∙ ap Ok (map-id (listed (c .in-Continue-ordered .ordered .items)))) (ordered .1) (c .in-Break-walled .field-0 .0) (c .in-Break-walled .ensures tt)))
 
 pub returns-then-not-is-empty : need.returns-then-not-is-empty
 returns-then-not-is-empty c =
@@ -28,8 +28,8 @@ returns-then-not-is-empty c =
     let walled = c .in-Continue-walled .ensures tt in
     let some : 0 < length (c .in-Continue-walled .walled .rest .now) = omega (arith, eqb-false (length (c .in-Continue-walled .walled .rest .now)) 0 (sym (c .if-not-is-empty .ensures tt))) in
     sym (walls-read (c .args .contents .now) (lines (c .args .text .now)) (lines (c .in-Continue-read .read .rest .now)) (lines (c .in-Continue-ordered .ordered .rest .now)) _ (listed (c .in-Continue-ordered .ordered .items))
-      (read .0) (read .1) (ordered .0 ∙ ap Ok (map-id (listed (c .in-Continue-ordered .ordered .items)))) (ordered .1) _ (lines (c .in-Continue-walled .walled .rest .now)) (walled .0) (walled .1)
-      ∙ over (c .in-Continue-walled .walled .rest .now) _ _ some)
+    (read .0) (read .1) (ordered .0 ∙ ap Ok (map-id (listed (c .in-Continue-ordered .ordered .items)))) (ordered .1) _ (lines (c .in-Continue-walled .walled .rest .now)) (walled .0) (walled .1)
+    ∙ over (c .in-Continue-walled .walled .rest .now) _ _ some)
 
 pub returns : need.returns
 returns c =
@@ -38,5 +38,5 @@ returns c =
     let walled = c .in-Continue-walled .ensures tt in
     let none : length (c .in-Continue-walled .walled .rest .now) ≡ 0 = eqb-true (length (c .in-Continue-walled .walled .rest .now)) 0 (sym (c .if-not-is-empty .ensures tt)) in
     sym (walls-read (c .args .contents .now) (lines (c .args .text .now)) (lines (c .in-Continue-read .read .rest .now)) (lines (c .in-Continue-ordered .ordered .rest .now)) _ (listed (c .in-Continue-ordered .ordered .items))
-      (read .0) (read .1) (ordered .0 ∙ ap Ok (map-id (listed (c .in-Continue-ordered .ordered .items)))) (ordered .1) _ (lines (c .in-Continue-walled .walled .rest .now)) (walled .0) (walled .1)
-      ∙ ends (c .in-Continue-walled .walled .rest .now) _ _ none)
+    (read .0) (read .1) (ordered .0 ∙ ap Ok (map-id (listed (c .in-Continue-ordered .ordered .items)))) (ordered .1) _ (lines (c .in-Continue-walled .walled .rest .now)) (walled .0) (walled .1)
+    ∙ ends (c .in-Continue-walled .walled .rest .now) _ _ none)

@@ -9,9 +9,9 @@ use Rattle.text.proofs.bytes.all_within.Needs.{then-b-low·by·then-b-low, the
 
 pub returns-then-b-low : need.returns-then-b-low
 returns-then-b-low c = elim (c .then-b-low .came) [
-    then-b-low·by·then-b-low w ↦ sym (under (c .args .low) (c .args .high) (c .args .bytes .now) (c .loop-b .b-index) (omega arith) (w .if-b-low .taken)) ∙ c .loop-b .inv
+  | then-b-low·by·then-b-low w ↦ sym (under (c .args .low) (c .args .high) (c .args .bytes .now) (c .loop-b .b-index) (omega arith) (w .if-b-low .taken)) ∙ c .loop-b .inv
   | then-b-low·by·else-b-low·then-b-high w ↦ sym (over (c .args .low) (c .args .high) (c .args .bytes .now) (c .loop-b .b-index) (omega arith) (w .if-b-high .taken)) ∙ c .loop-b .inv
-  ]
+]
 
 pub loop-b-again : need.loop-b-again
 loop-b-again c = sym (on (c .args .low) (c .args .high) (c .args .bytes .now) (c .loop-b .b-index) (omega arith) (omega arith) (omega arith)) ∙ c .loop-b .inv

@@ -21,12 +21,13 @@ add-n c = omega (arith, ten-up (c .loop-d .d-index) 6 (omega arith), in-range-at
 pub loop-d-again : need.loop-d-again
 loop-d-again c = (
   omega (arith, ten-more (c .loop-d .d-index), in-range-at 48 57 (c .args .digits .now) (c .loop-d .d-index) (omega arith) (sym (c .all-within .ensures) ∙ c .if-not-all-within .left)),
-  sym (value-on (c .loop-d .n) (c .args .digits .now) (c .loop-d .d-index) (omega arith)) ∙ c .loop-d .inv .1)
+  sym (value-on (c .loop-d .n) (c .args .digits .now) (c .loop-d .d-index) (omega arith)) ∙ c .loop-d .inv .1,
+)
 
 pub returns : need.returns
 returns c = record {
   value =
-    ap Some (sym (at-drop-all (value-after (c .loop-d .n)) (c .args .digits .now) (c .loop-d .d-index) (omega arith)) ∙ c .loop-d .inv .1)
-    ∙ sym (magnitude-some (c .args .digits .now) (omega (arith, eqb-false (length (c .args .digits .now)) 0 (sym (c .if-is-empty .ensures tt)))) (omega arith) (sym (c .all-within .ensures) ∙ c .if-not-all-within .left));
+      ap Some (sym (at-drop-all (value-after (c .loop-d .n)) (c .args .digits .now) (c .loop-d .d-index) (omega arith)) ∙ c .loop-d .inv .1)
+      ∙ sym (magnitude-some (c .args .digits .now) (omega (arith, eqb-false (length (c .args .digits .now)) 0 (sym (c .if-is-empty .ensures tt)))) (omega arith) (sym (c .all-within .ensures) ∙ c .if-not-all-within .left));
   bound = omega (arith, ten-up (c .loop-d .d-index) 7 (omega arith));
 }

@@ -14,10 +14,10 @@ pub returns-then-letters-gt-MAX-CELLS : need.returns-then-letters-gt-MAX-CELLS
 returns-then-letters-gt-MAX-CELLS c =
     let word : Some (c .in-Some-Wall .letters .now) ≡ after (codes "wall ") (c .args .body .now) = search needs in
     sym (wall-said (c .args .body .now) (c .in-Some-Wall .letters .now) (listed (c .in-Some .row)) word (omega arith) (c .in-Some .ensures tt)
-      ∙ cond-false _ _ _ (lt-leb (length (c .in-Some-Wall .letters .now)) 64 (omega arith)))
+    ∙ cond-false _ _ _ (lt-leb (length (c .in-Some-Wall .letters .now)) 64 (omega arith)))
 
 pub returns-else-letters-gt-MAX-CELLS : need.returns-else-letters-gt-MAX-CELLS
 returns-else-letters-gt-MAX-CELLS c =
     let word : Some (c .in-Some-Wall .letters .now) ≡ after (codes "wall ") (c .args .body .now) = search needs in
     sym (wall-said (c .args .body .now) (c .in-Some-Wall .letters .now) (listed (c .in-Some .row)) word (omega (arith, eqb-false (length (c .in-Some-Wall .letters .now)) 0 (sym (c .if-is-empty .ensures tt)))) (c .in-Some .ensures tt)
-      ∙ cond-true _ _ _ (le-leb (length (c .in-Some-Wall .letters .now)) 64 (omega arith)))
+    ∙ cond-true _ _ _ (le-leb (length (c .in-Some-Wall .letters .now)) 64 (omega arith)))

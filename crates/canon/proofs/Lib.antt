@@ -1,0 +1,9 @@
+pub mod Heading
+pub mod Joining
+pub mod Lines
+pub mod Numbers
+pub mod Orders
+pub mod Pieces
+pub mod Spaced
+pub mod Walls
+pub mod Whole

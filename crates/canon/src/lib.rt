@@ -1,0 +1,4 @@
+//! The canonical text of a room sheet.
+
+pub mod format;
+pub mod writer;

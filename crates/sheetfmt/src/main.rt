@@ -1,0 +1,46 @@
+//! `sheetfmt`: a room sheet from standard input, in its canonical form on standard output, or one line
+//! `refused NUMBER LAYER LINE`.
+
+ghost use Prim.Native.Nat.{_≤_};
+ghost use lib.ListN.{length};
+ghost use Rattle.std.specs.Results.{Cases};
+use canon::format::reply;
+use sheet::reader::MAX_SHEET;
+use std::error::AnyError;
+use std::io;
+use std::io::Read;
+
+/// One byte more than a sheet may have, so that a longer input is told from the longest sheet.
+const ROOM: usize = MAX_SHEET + 1;
+
+/// Reads until the input ends or the buffer is full, and tells how many bytes were read.
+fn fill<I: Read>(input: &mut I, buffer: &mut [u8]) -> io::Result<usize>
+    ensures { λ r. ⌜ Cases r (λ n. n ≤ length (now (buffer .exit))) (λ _. Unit {0}) ⌝ }
+{
+    let mut filled = 0;
+    // each turn reads a byte at least, so there are at most as many turns as there is room
+    for _ in 0..buffer.len() {
+        if filled >= buffer.len() {
+            break;
+        }
+        let got = input.read(&mut buffer[filled..])?;
+        if got == 0 {
+            break;
+        }
+        filled += got;
+    }
+    Ok(filled)
+}
+
+fn run(rt: &LibcRuntime) -> Result<(), AnyError> {
+    let mut buffer = [0u8; ROOM];
+    let mut input = rt.stdin();
+    let filled = fill(&mut input, &mut buffer)?;
+    let answer = reply(rt.alloc(), &buffer[0..filled])?;
+    rt.print(answer.as_str())?;
+    Ok(())
+}
+
+fn main(rt: LibcRuntime) -> Result<(), AnyError> {
+    rt.report(run(&rt))
+}
