@@ -129,19 +129,6 @@ impl Sheet {
         read_bodies(&first.item, first.rest)
     }
 
-    /// The number of axes.
-    pub fn axes(&self) -> usize
-        ensures { λ r. ⌜ r ≡ plan-of (now (self .entry)) .axes ⌝ }
-    {
-        self.axes
-    }
-
-    pub fn mode(&self) -> Mode
-        ensures { λ r. ⌜ r ≡ plan-of (now (self .entry)) .mode ⌝ }
-    {
-        self.mode
-    }
-
     /// The pieces, each with its extent on each axis.
     pub fn pieces(&self) -> &[Extents]
         ensures { λ r. ⌜ map (λ es. listed es) (now r) ≡ plan-of (now (self .entry)) .pieces ⌝ }
