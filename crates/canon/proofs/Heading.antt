@@ -26,6 +26,7 @@ use Rattle.forms.specs.declared.contents.Mode.{Mode}
 use Rattle.forms.specs.declared.contents.Mode.the-variants.{Strict, Nonstrict}
 use Rattle.forms.specs.Forms.{Announced, announced, contents-items, contents-fit, contents-from, says-contents, mode-word, mode-of, between}
 use Rattle.forms.specs.Outcome.{judged, with-some}
+use Rattle.forms.specs.Within.{Within}
 use Rattle.canon.proofs.Lines.{Fit, shown-after}
 use Rattle.canon.proofs.Numbers.{Small, numeral-signed, signed-short}
 use Rattle.canon.proofs.Spaced.{numbers-back, signed-whole, signed-shown, spaced-shown, spaced-short}
@@ -63,19 +64,10 @@ mode-short : (m : Mode) → length (mode-word m) ≤ 9
 mode-short Strict = omega arith
 mode-short Nonstrict = omega arith
 
--- what a sheet may announce
-pub record Announceable (c : Contents) : Type 0 where
-  pub axes-from : 1 ≤ c .axes
-  pub axes-to : c .axes ≤ 3
-  pub pieces-from : 1 ≤ c .pieces
-  pub pieces-to : c .pieces ≤ 24
-  pub orders-to : c .orders ≤ 32
-  pub rows-to : c .rows ≤ 64
-
 within : (low high n : ℕ) → low ≤ n → n ≤ high → between low high (pos n) ≡ true
 within low high n a b = and-from _ _ (le-leb low n a) (le-leb n high b)
 
-module _ (c : Contents) (h : Announceable c) where
+module _ (c : Contents) (h : Within c) where
   small-axes : Small (pos (c .axes))
   small-axes = omega (arith, h .axes-to)
 

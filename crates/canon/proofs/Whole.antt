@@ -18,7 +18,8 @@ use Rattle.forms.specs.Outcome.{and-then}
 use Rattle.sheet.specs.Fits.{Fits, Piece-fits, Order-fits, Row-fits}
 use Rattle.sheet.specs.Meaning.{meaning, lines-say, bodies, each-says, no-more}
 use Rattle.sheet.specs.Plan.{Plan, contents-of}
-use Rattle.canon.proofs.Heading.{Announceable, contents-body, contents-apart, heading-fit, heading-back}
+use Rattle.forms.specs.Within.{Within}
+use Rattle.canon.proofs.Heading.{contents-body, contents-apart, heading-fit, heading-back}
 use Rattle.canon.proofs.Lines.{Fit, ended, fit-readable, line-back, line-short, line-written, lines-written, length-written, readable-written, drop-written, each-back}
 use Rattle.canon.proofs.Orders.{order-body, order-apart, order-fit, order-back}
 use Rattle.canon.proofs.Pieces.{piece-body, piece-apart, piece-fit, piece-back}
@@ -31,7 +32,7 @@ then-back : {A B E : Type 0} (r : Result A E) (x : A) (f : A → Result B E) (s 
 then-back r x f s e k = ap (λ o. and-then o f) e ∙ k
 
 module _ (p : Plan) (h : Fits p) where
-  announceable : Announceable (contents-of p)
+  announceable : Within (contents-of p)
   announceable = record { axes-from = h .axes-from; axes-to = h .axes-to; pieces-from = h .pieces-from; pieces-to = h .pieces-to; orders-to = h .orders-to; rows-to = h .rows-to }
 
   -- each line of the text may stand as a line

@@ -1,16 +1,13 @@
 -- Texts that begin with a word.
 use mathlib.Core.Path.{_≡_, refl, sym, _∙_, ap}
-use mathlib.Core.Logic.{_≢_}
 use mathlib.Core.List.{List, [], _∷_, _++_}
 use Prim.Native.Nat.{ℕ, _+_, _-_, _<_, _≤_}
 use native.Mathlib.Omega.{arith}
 use lib.ListN.{length, getD, take, drop}
-use Rattle.std.specs.declared.option.Option.{Option}
-use Rattle.std.specs.declared.option.Option.the-variants.{Some, None}
+use Rattle.std.specs.declared.option.Option.the-variants.{Some}
 use Rattle.std.proofs.shelf.Lists.{drop-more, take-rest, drop-all, append-nil}
-use Rattle.std.proofs.shelf.Tests.{cond-true, cond-false, cond-both, eq-eqb, ne-eqb, eqb-true}
+use Rattle.std.proofs.shelf.Tests.{cond-true, eq-eqb}
 use Rattle.text.specs.Items.{after}
-use lib.Dec.{eqb}
 
 -- the list has the bytes p from place i on
 abbrev pub Reads : List ℕ → ℕ → List ℕ → Type 0
@@ -36,30 +33,7 @@ front p l h r = front-at l p 0 (omega arith) r ∙ ap (λ t. p ++ t) (ap (λ n. 
 pub whole : (p l : List ℕ) → length l ≡ length p → Reads l 0 p → l ≡ p
 whole p l h r = front-at l p 0 (omega arith) r ∙ ap (λ t. p ++ t) (drop-all (0 + length p) l (omega arith)) ∙ append-nil p
 
+-- what follows a word is what was put after it
 pub after-front : (p t : List ℕ) → after p (p ++ t) ≡ Some t
 after-front [] t = refl
 after-front (c ∷ p) t = cond-true _ _ _ (eq-eqb c c refl) ∙ after-front p t
-
--- what follows the word, where the text begins with it
-pub after-some : (p l t : List ℕ) → l ≡ p ++ t → after p l ≡ Some t
-after-some p l t e = ap (after p) e ∙ after-front p t
-
-after-back : (p l t : List ℕ) → after p l ≡ Some t → l ≡ p ++ t
-after-back [] l t e = cc
-after-back (c ∷ p) [] t e = absurd (let z : _≡_ {A = ℕ} 0 1 = cc in omega arith)
-after-back (c ∷ p) (d ∷ l) t e =
-    let split = cond-both (eqb c d) (after p l) None (λ o. o ≡ Some t → d ∷ l ≡ (c ∷ p) ++ t)
-    (λ h k. let i = eqb-true c d h in let j = after-back p l t k in cc)
-    (λ h k. absurd (let z : _≡_ {A = ℕ} 0 1 = cc in omega arith)) in
-    split e
-
-pub after-none : (p l : List ℕ) → ((t : List ℕ) → l ≡ p ++ t → ⊥) → after p l ≡ None
-after-none p l h = go (after p l) refl
-  where
-    go : (o : Option (List ℕ)) → after p l ≡ o → after p l ≡ None
-    go None e = e
-    go (Some t) e = absurd (h t (after-back p l t e))
-
--- a text that begins with one byte begins with no other
-pub after-other : (c d : ℕ) (p q l t : List ℕ) → c ≢ d → l ≡ (c ∷ p) ++ t → after (d ∷ q) l ≡ None
-after-other c d p q l t h e = ap (after (d ∷ q)) e ∙ cond-false _ _ _ (ne-eqb d c (λ i. h (sym i)))

@@ -2,7 +2,7 @@
 
 pub mod before;
 pub mod contents;
-pub mod counts;
+mod counts;
 pub mod fault;
 pub mod form;
 pub mod line;

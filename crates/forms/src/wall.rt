@@ -57,9 +57,10 @@ pub impl LineForm for WallLine as ReadsWall {
         let Some(row) = cells(letters) else {
             return Err(Fault::Form);
         };
+        let too_wide = letters.len() > MAX_CELLS;
         if letters.is_empty() {
             Err(Fault::Form)
-        } else if letters.len() > MAX_CELLS {
+        } else if too_wide {
             Err(Fault::Range)
         } else {
             Ok(row)

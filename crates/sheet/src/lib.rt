@@ -2,4 +2,4 @@
 
 pub mod lay;
 pub mod reader;
-pub mod walk;
+mod walk;

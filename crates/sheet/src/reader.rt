@@ -102,7 +102,8 @@ fn read_bodies(contents: &Contents, text: &[u8]) -> Result<Sheet, Refusal>
         2 + pieces + orders,
         rows,
     )?;
-    if !walled.rest.is_empty() {
+    let left_over = walled.rest.len() > 0;
+    if left_over {
         return Err(Refusal::LineLeftOver {
             line: 2 + pieces + orders + rows,
         });

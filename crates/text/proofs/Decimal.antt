@@ -1,11 +1,10 @@
 -- Digits read one by one.
 use mathlib.Core.Path.{_≡_, refl, sym, _∙_, ap}
-use mathlib.Core.Bool.{Bool, true, false, cond, _&&_}
+use mathlib.Core.Bool.{true}
 use mathlib.Core.List.{List, [], _∷_, _++_}
 use Prim.Native.Nat.{ℕ, _+_, _-_, _*_, _^_, _<_, _≤_}
 use native.Mathlib.Omega.{arith}
 use native.Mathlib.Nat.{pow-le-pow-right}
-use lib.Dec.{leb}
 use lib.IntN.{ℤ, pos, negℤ, _-ℤ_}
 use mir.Val.{toZ, ofZ}
 use mir.Syntax.{w32}
@@ -16,7 +15,7 @@ use lib.ListN.{length, getD, take, drop}
 use Rattle.std.specs.declared.option.Option.{Option}
 use Rattle.std.specs.declared.option.Option.the-variants.{Some, None}
 use Rattle.std.proofs.shelf.Lists.{at-drop-more, take-rest}
-use Rattle.std.proofs.shelf.Tests.{cond-true, cond-false, and-from, and-left, and-right, le-leb, lt-leb, eq-eqb}
+use Rattle.std.proofs.shelf.Tests.{cond-true, and-from, le-leb, eq-eqb}
 use Rattle.text.specs.Numerals.{all-digits, value-after, magnitude, numeral}
 
 -- one digit read, and the rest to read
@@ -25,15 +24,6 @@ value-on n ds i h = at-drop-more (value-after n) ds i 0 h
 
 pub magnitude-some : (ds : List ℕ) → 1 ≤ length ds → length ds ≤ 7 → all-digits ds ≡ true → magnitude ds ≡ Some (value-after 0 ds)
 magnitude-some ds h k e = cond-true _ _ _ (and-from _ _ (and-from _ _ (le-leb 1 (length ds) h) (le-leb (length ds) 7 k)) e)
-
-pub magnitude-none : (ds : List ℕ) → all-digits ds ≡ false → magnitude ds ≡ None
-magnitude-none ds e = cond-false _ _ _ (and-right (leb 1 (length ds) && leb (length ds) 7) _ e)
-
-pub magnitude-empty : (ds : List ℕ) → length ds < 1 → magnitude ds ≡ None
-magnitude-empty ds h = cond-false _ _ _ (and-left _ _ (and-left _ _ (lt-leb 1 (length ds) h)))
-
-pub magnitude-long : (ds : List ℕ) → 7 < length ds → magnitude ds ≡ None
-magnitude-long ds h = cond-false _ _ _ (and-left _ _ (and-right (leb 1 (length ds)) _ (lt-leb (length ds) 7 h)))
 
 pub ten-more : (i : ℕ) → 10 ^ (i + 1) ≡ 10 ^ i * 10
 ten-more i = pow-add 10 i 1

@@ -1,6 +1,6 @@
 //! Text as a sheet has it: lines that end in a line feed, items parted by one space, decimal numbers.
 
-pub mod bytes;
+mod bytes;
 pub mod items;
 pub mod lines;
 pub mod numerals;

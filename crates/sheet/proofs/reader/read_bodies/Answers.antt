@@ -6,7 +6,6 @@ use lib.ListN.{length, drop}
 use Rattle.std.specs.declared.result.Result.the-variants.{Ok, Err}
 use Rattle.std.proofs.shelf.Lists.{map-id}
 use Rattle.std.proofs.shelf.Results.{err-from-errBy}
-use Rattle.std.proofs.shelf.Tests.{eqb-true, eqb-false}
 use Rattle.room.specs.Listed.{listed}
 use Rattle.text.specs.Lines.{lines}
 use Rattle.sheet.proofs.Bodies.{walls-refused, walls-read, ends, over}
@@ -21,12 +20,12 @@ returns-in-Break-walled c =
     (sym (walls-refused (c .args .contents .now) (lines (c .args .text .now)) (lines (c .in-Continue-read .read .rest .now)) (lines (c .in-Continue-ordered .ordered .rest .now)) _ (listed (c .in-Continue-ordered .ordered .items))
     (read .0) (read .1) (ordered .0 ∙ ap Ok (map-id (listed (c .in-Continue-ordered .ordered .items)))) (ordered .1) (c .in-Break-walled .field-0 .0) (c .in-Break-walled .ensures tt)))
 
-pub returns-then-not-is-empty : need.returns-then-not-is-empty
-returns-then-not-is-empty c =
+pub returns-then-left-over : need.returns-then-left-over
+returns-then-left-over c =
     let read = c .in-Continue-read .ensures tt in
     let ordered = c .in-Continue-ordered .ensures tt in
     let walled = c .in-Continue-walled .ensures tt in
-    let some : 0 < length (c .in-Continue-walled .walled .rest .now) = omega (arith, eqb-false (length (c .in-Continue-walled .walled .rest .now)) 0 (sym (c .if-not-is-empty .ensures tt))) in
+    let some : 0 < length (c .in-Continue-walled .walled .rest .now) = omega arith in
     sym (walls-read (c .args .contents .now) (lines (c .args .text .now)) (lines (c .in-Continue-read .read .rest .now)) (lines (c .in-Continue-ordered .ordered .rest .now)) _ (listed (c .in-Continue-ordered .ordered .items))
     (read .0) (read .1) (ordered .0 ∙ ap Ok (map-id (listed (c .in-Continue-ordered .ordered .items)))) (ordered .1) _ (lines (c .in-Continue-walled .walled .rest .now)) (walled .0) (walled .1)
     ∙ over (c .in-Continue-walled .walled .rest .now) _ _ some)
@@ -36,7 +35,7 @@ returns c =
     let read = c .in-Continue-read .ensures tt in
     let ordered = c .in-Continue-ordered .ensures tt in
     let walled = c .in-Continue-walled .ensures tt in
-    let none : length (c .in-Continue-walled .walled .rest .now) ≡ 0 = eqb-true (length (c .in-Continue-walled .walled .rest .now)) 0 (sym (c .if-not-is-empty .ensures tt)) in
+    let none : length (c .in-Continue-walled .walled .rest .now) ≡ 0 = omega arith in
     sym (walls-read (c .args .contents .now) (lines (c .args .text .now)) (lines (c .in-Continue-read .read .rest .now)) (lines (c .in-Continue-ordered .ordered .rest .now)) _ (listed (c .in-Continue-ordered .ordered .items))
     (read .0) (read .1) (ordered .0 ∙ ap Ok (map-id (listed (c .in-Continue-ordered .ordered .items)))) (ordered .1) _ (lines (c .in-Continue-walled .walled .rest .now)) (walled .0) (walled .1)
     ∙ ends (c .in-Continue-walled .walled .rest .now) _ _ none)
