@@ -11,7 +11,6 @@ use Rattle.room.specs.Told.{refusal-line}
 use Rattle.room.specs.declared.refusal.Refusal.{Refusal}
 use Rattle.forms.specs.Outcome.{map-ok}
 use Rattle.sheet.specs.Meaning.{meaning}
-use Rattle.sheet.specs.Plan.{Plan}
 use Rattle.canon.specs.Canonical.{canonical}
 use Rattle.canon.specs.declared.format.Unformatted.{Unformatted}
 use Rattle.canon.specs.declared.format.Unformatted.the-variants.{Refused, NoMemory}

@@ -1,18 +1,15 @@
 -- The extents that the numbers of a piece line give.
-use mathlib.Core.Path.{_≡_, refl, sym, _∙_, ap}
+use mathlib.Core.Path.{_≡_, sym, _∙_, ap}
 use mathlib.Core.Bool.{cond}
-use mathlib.Core.List.{List, map}
+use mathlib.Core.List.{List}
 use Prim.Native.Nat.{ℕ, _+_, _*_, _<_, _≤_}
 use native.Mathlib.Omega.{arith}
 use lib.Chars.{codes}
 use lib.Dec.{leb}
 use lib.IntN.{ℤ, pos}
-use lib.ListN.{length, getD, take}
-use Rattle.std.specs.Iters.{counting}
+use lib.ListN.{getD, take}
 use Rattle.std.specs.Options.{mapped}
-use Rattle.std.specs.declared.option.Option.{Option}
 use Rattle.std.specs.declared.option.Option.the-variants.{Some, None}
-use Rattle.std.specs.declared.result.Result.{Result}
 use Rattle.std.specs.declared.result.Result.the-variants.{Ok, Err}
 use Rattle.std.proofs.shelf.Counted.{fill-by-all, length-map-counting, getD-map-counting}
 use Rattle.std.proofs.shelf.Lists.{getD-take}
@@ -20,7 +17,6 @@ use Rattle.std.proofs.shelf.Tests.{cond-true, le-leb}
 use Rattle.room.specs.declared.piece.Extent.{Extent}
 use Rattle.text.specs.Items.{items, after}
 use Rattle.text.specs.Numerals.{numbers}
-use Rattle.forms.specs.declared.fault.Fault.{Fault}
 use Rattle.forms.specs.declared.fault.Fault.the-variants.{Range}
 use Rattle.forms.specs.Forms.{extent-at, extents, extents-fit, says-piece}
 use Rattle.forms.specs.Outcome.{judged, with-some}

@@ -1,6 +1,6 @@
 -- What each kind of line says, from the text of the line: first its form, then the ranges of its numbers.
 use Prim.Native.Nat.{ℕ, _+_, _*_, _-_}
-use mathlib.Core.Bool.{Bool, true, false, cond, _&&_, not}
+use mathlib.Core.Bool.{Bool, true, cond, _&&_, not}
 use mathlib.Core.List.{List, [], _∷_, map}
 use lib.Chars.{codes}
 use lib.Dec.{eqb, leb}

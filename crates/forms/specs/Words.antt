@@ -1,6 +1,6 @@
 -- Lines by their first word.
 use Prim.Native.Nat.{ℕ}
-use mathlib.Core.List.{List, _++_}
+use mathlib.Core.List.{List}
 use mathlib.Core.Path.{_≡_}
 use lib.Chars.{codes}
 use denote.Ref.{now}

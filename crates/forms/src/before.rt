@@ -3,7 +3,6 @@
 ghost use mathlib.Core.Path.{_≡_};
 ghost use Rattle.room.specs.declared.orders.Order.{Order as OrderT};
 ghost use Rattle.forms.specs.Forms.{order-fits, order-from, says-before};
-ghost use lib.ListN.{take};
 use crate::counts::count;
 use crate::counts::is_below;
 use crate::counts::is_between;

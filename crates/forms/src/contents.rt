@@ -1,10 +1,6 @@
 //! The contents line: `sheet`, the axes, `strict` or `nonstrict`, and the numbers of pieces, orders and wall rows.
 
 ghost use mathlib.Core.Path.{_≡_};
-ghost use mathlib.Core.Bool.{cond};
-ghost use mathlib.Core.List.{List};
-ghost use Prim.Native.Nat.{ℕ};
-ghost use lib.ListN.{take};
 ghost use Rattle.std.specs.Options.{Cases as BySome, mapped};
 ghost use Rattle.std.specs.declared.option.Option.the-variants.{Some};
 ghost use Rattle.forms.specs.Forms.{mode-word, says-contents, contents-items, contents-fit, contents-from};

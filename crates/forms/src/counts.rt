@@ -1,7 +1,7 @@
 //! Numbers that count something.
 
 ghost use mathlib.Core.Path.{_≡_};
-ghost use Prim.Native.Nat.{_<_, _^_};
+ghost use Prim.Native.Nat.{_<_};
 ghost use Rattle.forms.specs.Forms.{count as count-of, between, below};
 
 /// Whether a number lies within `low` to `high`.

@@ -1,7 +1,7 @@
 -- The limits of every room, and when the numbers of a piece keep them.
 use Prim.Native.Nat.{ℕ}
 use mathlib.Core.Bool.{Bool, _&&_}
-use lib.IntN.{ℤ, pos, negℤ}
+use lib.IntN.{pos, negℤ}
 use lib.Signed.{leZ}
 use Rattle.room.specs.declared.piece.Extent.{Extent}
 

@@ -4,5 +4,6 @@ pub mod array_vec;
 pub mod limits;
 pub mod orders;
 pub mod piece;
+pub mod point;
 pub mod refusal;
 pub mod walls;

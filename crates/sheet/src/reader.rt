@@ -1,7 +1,6 @@
 //! Reading a sheet.
 
 ghost use mathlib.Core.Path.{_≡_};
-ghost use mathlib.Core.Bool.{cond};
 ghost use mathlib.Core.List.{map};
 ghost use Prim.Native.Nat.{_+_};
 ghost use lib.ListN.{drop};
@@ -18,7 +17,6 @@ ghost use Rattle.sheet.specs.Held.{plan-of, rows-of};
 ghost use Rattle.sheet.specs.Plan.{contents-of};
 ghost use Rattle.sheet.specs.Meaning.{meaning, line-says, bodies as bodies-say};
 use crate::walk::Read;
-use crate::walk::ReadAll;
 use crate::walk::read_each;
 use crate::walk::read_line;
 use forms::before::BeforeLine;
@@ -62,6 +60,15 @@ fn no_extents() -> Extents {
     })
 }
 
+fn no_order() -> Order {
+    Order {
+        before: 0,
+        after: 0,
+        axis: 0,
+        gap: 0,
+    }
+}
+
 /// Reads the first line.
 fn read_contents(text: &[u8]) -> Result<Read<'_, Contents>, Refusal>
     ensures { λ r. ⌜ Cases r (λ l. (line-says says-contents 1 (lines (now (text .entry))) ≡ Ok (l .item)) × (lines (now (l .rest)) ≡ drop 1 (lines (now (text .entry)))) × Within (l .item)) (λ e. line-says says-contents 1 (lines (now (text .entry))) ≡ Err e) ⌝ }
@@ -81,16 +88,10 @@ fn read_bodies(contents: &Contents, text: &[u8]) -> Result<Sheet, Refusal>
         orders,
         rows,
     } = *contents;
-    let no_order = Order {
-        before: 0,
-        after: 0,
-        axis: 0,
-        gap: 0,
-    };
     let read = read_each(&PieceLine { axes }, no_extents(), text, 2, pieces)?;
     let ordered = read_each(
         &BeforeLine { axes, pieces },
-        no_order,
+        no_order(),
         read.rest,
         2 + pieces,
         orders,

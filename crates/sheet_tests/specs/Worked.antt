@@ -3,16 +3,14 @@ use Prim.Native.Nat.{ℕ}
 use mathlib.Core.List.{List, [], _∷_, _++_}
 use mathlib.Core.Path.{_≡_}
 use lib.Chars.{codes}
-use lib.IntN.{ℤ, pos}
+use lib.IntN.{pos}
 use Rattle.std.specs.declared.result.Result.{Result}
 use Rattle.std.specs.declared.result.Result.the-variants.{Ok, Err}
 use Rattle.std.specs.shelf.Lists.{All}
-use Rattle.room.specs.declared.orders.Order.{Order}
 use Rattle.room.specs.declared.piece.Extent.{Extent}
 use Rattle.room.specs.declared.refusal.Layer.the-variants.{Sheet}
 use Rattle.room.specs.declared.refusal.Refusal.{Refusal}
 use Rattle.room.specs.declared.refusal.Refusal.the-variants.{LineUnreadable, LineMissing, LineLeftOver, LineMalformed, OutOfRange}
-use Rattle.room.specs.declared.walls.Cell.{Cell}
 use Rattle.room.specs.declared.walls.Cell.the-variants.{Wall, Open}
 use Rattle.forms.specs.declared.contents.Mode.the-variants.{Strict}
 use Rattle.sheet.specs.Meaning.{meaning}

@@ -1,7 +1,7 @@
 //! Items of a line, parted by one space.
 
 ghost use mathlib.Core.Path.{_≡_};
-ghost use mathlib.Core.List.{_∷_, []};
+ghost use mathlib.Core.List.{_∷_};
 ghost use Rattle.text.specs.Items.{items as items-of};
 ghost use Rattle.text.specs.Split.{items-after};
 

@@ -2,10 +2,10 @@
 
 ghost use mathlib.Core.Path.{_≡_};
 ghost use mathlib.Core.Bool.{cond};
-ghost use Prim.Native.Nat.{_<_, _≤_};
+ghost use Prim.Native.Nat.{_<_};
 ghost use lib.Dec.{leb};
 ghost use Rattle.std.specs.declared.option.Option.the-variants.{None};
-ghost use lib.ListN.{length, take};
+ghost use lib.ListN.{take};
 ghost use Rattle.std.specs.Options.{Cases as BySome, mapped};
 ghost use Rattle.text.specs.Numerals.{magnitude as magnitude-of, numeral as numeral-of, numbers as numbers-of};
 ghost use Rattle.text.specs.Split.{items-after};

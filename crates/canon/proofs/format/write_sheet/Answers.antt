@@ -1,9 +1,7 @@
 use mathlib.Core.Path.{_≡_, sym, _∙_, ap, subst}
-use mathlib.Core.List.{List, _++_, map}
-use Prim.Native.Nat.{ℕ}
+use mathlib.Core.List.{_++_, map}
 use Rattle.std.specs.Joined.{joined}
 use Rattle.std.specs.Of.String.{string-bytes}
-use Rattle.std.specs.declared.result.Result.the-variants.{Ok}
 use Rattle.room.specs.Listed.{listed}
 use Rattle.sheet.specs.Held.{plan-of}
 use Rattle.sheet.specs.Meaning.{meaning}

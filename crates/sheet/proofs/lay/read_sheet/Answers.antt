@@ -1,15 +1,13 @@
 use native.Mathlib.Omega.{arith}
-use borrow.Author.Needs.{needs}
 use mathlib.Core.Path.{_≡_, refl, sym, _∙_, ap}
-use mathlib.Core.List.{map}
-use Prim.Native.Nat.{ℕ, _<_, _≤_}
+use Prim.Native.Nat.{_<_, _≤_}
 use lib.ListN.{length}
-use Rattle.std.specs.declared.result.Result.the-variants.{Ok, Err}
+use Rattle.std.specs.declared.result.Result.the-variants.{Ok}
 use Rattle.std.proofs.shelf.Lists.{length-map}
 use Rattle.std.proofs.shelf.Tests.{cond-true, cond-false, lt-ltb, le-ltb}
 use Rattle.room.specs.Listed.{listed}
 use Rattle.forms.specs.Outcome.{map-ok}
-use Rattle.sheet.specs.Held.{plan-of, rows-of}
+use Rattle.sheet.specs.Held.{plan-of}
 use Rattle.sheet.specs.Lay.{answered, left-in-records, laid-all}
 use Rattle.sheet.specs.Meaning.{meaning}
 use Rattle.sheet.proofs.lay.read_sheet.Needs as need

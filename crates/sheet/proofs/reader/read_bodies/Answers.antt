@@ -1,9 +1,8 @@
 use native.Mathlib.Omega.{arith}
 use mathlib.Core.Path.{_≡_, sym, _∙_, ap}
-use mathlib.Core.List.{map}
-use Prim.Native.Nat.{_+_, _<_}
-use lib.ListN.{length, drop}
-use Rattle.std.specs.declared.result.Result.the-variants.{Ok, Err}
+use Prim.Native.Nat.{_<_}
+use lib.ListN.{length}
+use Rattle.std.specs.declared.result.Result.the-variants.{Ok}
 use Rattle.std.proofs.shelf.Lists.{map-id}
 use Rattle.std.proofs.shelf.Results.{err-from-errBy}
 use Rattle.room.specs.Listed.{listed}
