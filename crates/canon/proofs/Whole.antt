@@ -25,7 +25,7 @@ use Rattle.canon.proofs.Orders.{order-body, order-apart, order-fit, order-back
 use Rattle.canon.proofs.Pieces.{piece-body, piece-apart, piece-fit, piece-back}
 use Rattle.canon.proofs.Walls.{row-body, row-apart, row-fit, row-back}
 use Rattle.canon.specs.Canonical.{canonical, contents-line, piece-line, order-line, row-line}
-use Rattle.canon.specs.Theorems.{Keeps-limits}
+use Rattle.canon.specs.Kept.{Keeps-limits}
 
 -- a result that is there is handed on
 then-back : {A B E : Type 0} (r : Result A E) (x : A) (f : A → Result B E) (s : Result B E) → r ≡ Ok x → f x ≡ s → and-then r f ≡ s

@@ -2,7 +2,9 @@
 use Prim.Native.Nat.{ℕ}
 use mathlib.Core.List.{List, [], _∷_, _++_}
 use mathlib.Core.Path.{_≡_}
+use mathlib.Core.Bool.{true}
 use Rattle.std.specs.Of.String.{string-bytes}
+use Rattle.std.specs.Results.{isOk}
 use Rattle.std.specs.declared.string.String.{String}
 use Rattle.std.specs.declared.alloc.Global.{Global}
 use Rattle.std.specs.declared.result.Result.{Result}
@@ -19,11 +21,11 @@ use Rattle.canon.specs.declared.format.Unformatted.the-variants.{Refused, NoMe
 abbrev pub formatted : List ℕ → Result (List ℕ) Refusal
 formatted text = map-ok canonical (meaning text)
 
--- a result is this outcome; memory may always run out
+-- a result is this outcome; memory may run out, but only where there is a text to write
 abbrev pub Gives : Result (List ℕ) Refusal → Result (String Global) Unformatted → Type 0
 Gives outcome (Ok t) = outcome ≡ Ok (string-bytes t)
 Gives outcome (Err (Refused e)) = outcome ≡ Err e
-Gives outcome (Err NoMemory) = Unit {0}
+Gives outcome (Err NoMemory) = isOk outcome ≡ true
 
 -- what is printed: the text, or the line of the refusal
 abbrev pub reply : Result (List ℕ) Refusal → List ℕ

@@ -1,3 +1,3 @@
 pub mod Canonical
 pub mod Formatted
-pub mod Theorems
+pub mod Kept

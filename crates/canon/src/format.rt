@@ -9,7 +9,7 @@ ghost use Rattle.sheet.specs.Held.{plan-of};
 ghost use Rattle.sheet.specs.Meaning.{meaning};
 ghost use Rattle.canon.specs.Canonical.{canonical};
 ghost use Rattle.canon.specs.Formatted.{formatted, Gives, reply as reply-to};
-ghost use Rattle.canon.specs.Theorems.{Keeps-limits};
+ghost use Rattle.canon.specs.Kept.{Keeps-limits};
 use crate::writer::Canonical;
 use crate::writer::WritesContents;
 use crate::writer::WritesOrder;
@@ -47,6 +47,7 @@ pub enum Unformatted {
 /// The canonical text of the sheet that a text writes.
 pub fn format_sheet(heap: Global, text: &[u8]) -> Result<String, Unformatted>
     ensures gives { λ r. ⌜ Gives (formatted (now (text .entry))) r ⌝ }
+    ensures back { λ r. ⌜ made r (λ t. meaning (string-bytes t) ≡ meaning (now (text .entry))) ⌝ }
     ensures again { λ r. ⌜ made r (λ t. formatted (string-bytes t) ≡ Ok (string-bytes t)) ⌝ }
     ensures limits { λ r. ⌜ made r (λ t. Keeps-limits (string-bytes t)) ⌝ }
 {

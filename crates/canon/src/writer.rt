@@ -18,7 +18,7 @@ use room::walls::Cell;
 use room::walls::Row;
 use std::fmt;
 
-/// What has a canonical text. A call fails only for want of memory.
+/// What has a canonical text. A call fails only for want of memory, and leaves any text then.
 pub trait Canonical {
     ghost written: { Self → List ℕ };
 
@@ -52,7 +52,7 @@ pub impl Canonical for Contents as WritesContents {
     }
 }
 
-/// The ends of an extent, each after a space.
+/// An extent on its own is written as its ends, each after a space: in a piece line, all lengths stand before the ends.
 pub impl Canonical for Extent as WritesEnds {
     ghost written = { λ e. spaced (e .lower) ++ spaced (e .upper) };
 

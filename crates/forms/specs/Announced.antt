@@ -3,5 +3,5 @@ use lib.ListN.{take}
 use Rattle.forms.specs.declared.contents.Announced.{Announced as Held}
 use Rattle.forms.specs.Forms.{Announced}
 
-abbrev pub told-by : Held → Announced
-told-by h = record { axes = h .axes; mode = h .mode; counts = take 3 (h .counts) }
+abbrev pub announced-by : Held → Announced
+announced-by h = record { axes = h .axes; mode = h .mode; counts = take 3 (h .counts) }

@@ -4,7 +4,7 @@ ghost use mathlib.Core.Path.{_≡_};
 ghost use Rattle.std.specs.Options.{Cases as BySome, mapped};
 ghost use Rattle.std.specs.declared.option.Option.the-variants.{Some};
 ghost use Rattle.forms.specs.Forms.{mode-word, says-contents, contents-items, contents-fit, contents-from};
-ghost use Rattle.forms.specs.Announced.{told-by};
+ghost use Rattle.forms.specs.Announced.{announced-by};
 ghost use Rattle.forms.specs.declared.contents.Contents.{Contents as ContentsT};
 ghost use Rattle.forms.specs.declared.fault.Fault.the-variants.{Form, Range};
 ghost use Rattle.text.specs.Items.{items};
@@ -72,7 +72,7 @@ fn mode_of(word: &[u8]) -> Option<Mode>
 }
 
 fn split_contents(text: &[u8]) -> Option<Announced>
-    ensures { λ r. ⌜ mapped told-by r ≡ contents-items (items (now (text .entry))) ⌝ }
+    ensures { λ r. ⌜ mapped announced-by r ≡ contents-items (items (now (text .entry))) ⌝ }
 {
     let (axes, rest) = split_item(text);
     let (mode, rest) = split_item(rest?);
@@ -85,7 +85,7 @@ fn split_contents(text: &[u8]) -> Option<Announced>
 
 impl Announced {
     fn fits(&self) -> bool
-        ensures { λ r. ⌜ r ≡ contents-fit (told-by (now (self .entry))) ⌝ }
+        ensures { λ r. ⌜ r ≡ contents-fit (announced-by (now (self .entry))) ⌝ }
     {
         is_between(&self.axes, 1, MAX_AXES)
             && is_between(&self.counts[0], 1, MAX_PIECES)
@@ -94,7 +94,7 @@ impl Announced {
     }
 
     fn contents(&self) -> Contents
-        ensures { λ r. ⌜ r ≡ contents-from (told-by (now (self .entry))) ⌝ }
+        ensures { λ r. ⌜ r ≡ contents-from (announced-by (now (self .entry))) ⌝ }
     {
         Contents {
             axes: count(&self.axes),

@@ -7,7 +7,7 @@ use Rattle.room.specs.declared.refusal.Layer.{Layer}
 use Rattle.room.specs.declared.refusal.Layer.the-variants.{Sheet, Rule, Board}
 use Rattle.room.specs.declared.refusal.Told.{Told}
 use Rattle.room.specs.declared.refusal.Refusal.{Refusal}
-use Rattle.room.specs.declared.refusal.Refusal.the-variants.{SheetTooLong, LineUnreadable, LineMissing, LineLeftOver, LineMalformed, OutOfRange, MemoryShort}
+use Rattle.room.specs.declared.refusal.Refusal.the-variants.{SheetTooLong, LineUnreadable, LineMissing, LineLeftOver, LineMalformed, LineOutOfRange, MemoryShort}
 
 abbrev telling : ℕ → Layer → ℕ → Told
 telling n layer line = record { number = n; layer = layer; line = line }
@@ -18,7 +18,7 @@ told (LineUnreadable line) = telling 2 Sheet line
 told (LineMissing line) = telling 3 Sheet line
 told (LineLeftOver line) = telling 3 Sheet line
 told (LineMalformed line) = telling 4 Sheet line
-told (OutOfRange layer line) = telling 5 layer line
+told (LineOutOfRange line) = telling 5 Sheet line
 told (MemoryShort layer) = telling 6 layer 0
 
 abbrev pub layer-word : Layer → List ℕ

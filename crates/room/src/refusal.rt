@@ -27,8 +27,8 @@ pub enum Refusal {
     LineLeftOver { line: usize },
     /// A line that is not of the form that its place asks for.
     LineMalformed { line: usize },
-    /// A number outside its range, or numbers that do not go together.
-    OutOfRange { layer: Layer, line: usize },
+    /// A line with a number outside its range, numbers that do not go together, or too many cells.
+    LineOutOfRange { line: usize },
     /// Too little memory was lent.
     MemoryShort { layer: Layer },
 }
@@ -52,7 +52,7 @@ impl Refusal {
             Refusal::LineMissing { line } => (3, Layer::Sheet, line),
             Refusal::LineLeftOver { line } => (3, Layer::Sheet, line),
             Refusal::LineMalformed { line } => (4, Layer::Sheet, line),
-            Refusal::OutOfRange { layer, line } => (5, layer, line),
+            Refusal::LineOutOfRange { line } => (5, Layer::Sheet, line),
             Refusal::MemoryShort { layer } => (6, layer, 0),
         };
         Told {

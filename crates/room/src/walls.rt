@@ -4,6 +4,7 @@ use crate::array_vec::ArrayVec;
 use crate::limits::MAX_CELLS;
 use crate::limits::MAX_ROWS;
 
+/// A cell of a wall map: no piece may cover a wall.
 #[derive(Clone, Copy)]
 pub enum Cell {
     Wall,

@@ -6,9 +6,8 @@ use lib.Dec.{ltb}
 use lib.ListN.{length, drop}
 use Rattle.std.specs.declared.result.Result.{Result}
 use Rattle.std.specs.declared.result.Result.the-variants.{Ok, Err}
-use Rattle.room.specs.declared.refusal.Layer.the-variants.{Sheet}
 use Rattle.room.specs.declared.refusal.Refusal.{Refusal}
-use Rattle.room.specs.declared.refusal.Refusal.the-variants.{SheetTooLong, LineUnreadable, LineMissing, LineLeftOver, LineMalformed, OutOfRange}
+use Rattle.room.specs.declared.refusal.Refusal.the-variants.{SheetTooLong, LineUnreadable, LineMissing, LineLeftOver, LineMalformed, LineOutOfRange}
 use Rattle.text.specs.Lines.{Line, lines, readable}
 use Rattle.forms.specs.declared.contents.Contents.{Contents}
 use Rattle.forms.specs.declared.fault.Fault.{Fault}
@@ -22,7 +21,7 @@ max-sheet = 16384
 
 abbrev pub refusal-at : ℕ → Fault → Refusal
 refusal-at number Form = LineMalformed number
-refusal-at number Range = OutOfRange Sheet number
+refusal-at number Range = LineOutOfRange number
 
 abbrev pub at-line : {A : Type 0} → ℕ → Result A Fault → Result A Refusal
 at-line number (Ok x) = Ok x

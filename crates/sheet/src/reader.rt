@@ -16,7 +16,7 @@ ghost use Rattle.sheet.specs.Fits.{Fits};
 ghost use Rattle.sheet.specs.Held.{plan-of, rows-of};
 ghost use Rattle.sheet.specs.Plan.{contents-of};
 ghost use Rattle.sheet.specs.Meaning.{meaning, line-says, bodies as bodies-say};
-use crate::walk::Read;
+use crate::walk::ReadLine;
 use crate::walk::read_each;
 use crate::walk::read_line;
 use forms::before::BeforeLine;
@@ -70,7 +70,7 @@ fn no_order() -> Order {
 }
 
 /// Reads the first line.
-fn read_contents(text: &[u8]) -> Result<Read<'_, Contents>, Refusal>
+fn read_contents(text: &[u8]) -> Result<ReadLine<'_, Contents>, Refusal>
     ensures { λ r. ⌜ Cases r (λ l. (line-says says-contents 1 (lines (now (text .entry))) ≡ Ok (l .item)) × (lines (now (l .rest)) ≡ drop 1 (lines (now (text .entry)))) × Within (l .item)) (λ e. line-says says-contents 1 (lines (now (text .entry))) ≡ Err e) ⌝ }
 {
     read_line(&ContentsLine {}, text, 1)
@@ -138,12 +138,14 @@ impl Sheet {
         self.pieces.as_slice()
     }
 
+    /// The orders, in the order of their lines.
     pub fn orders(&self) -> &Orders
         ensures { λ r. ⌜ listed (now r) ≡ plan-of (now (self .entry)) .orders ⌝ }
     {
         &self.orders
     }
 
+    /// The wall map, row 0 first.
     pub fn walls(&self) -> &WallMap
         ensures { λ r. ⌜ rows-of (now r) ≡ plan-of (now (self .entry)) .rows ⌝ }
     {

@@ -13,7 +13,6 @@ use forms::fault::Fault;
 use forms::form::LineForm;
 use room::array_vec::ArrayVec;
 use room::array_vec::ArrayVecClone;
-use room::refusal::Layer;
 use room::refusal::Refusal;
 use text::lines::is_readable;
 use text::lines::split_line;
@@ -27,7 +26,7 @@ pub struct Taken<'a> {
 
 /// What a line says, and what follows the line.
 #[derive(Clone, Copy)]
-pub struct Read<'a, T> {
+pub struct ReadLine<'a, T> {
     pub item: T,
     pub rest: &'a [u8],
 }
@@ -38,10 +37,7 @@ fn refusal(fault: Fault, line: usize) -> Refusal
 {
     match fault {
         Fault::Form => Refusal::LineMalformed { line },
-        Fault::Range => Refusal::OutOfRange {
-            layer: Layer::Sheet,
-            line,
-        },
+        Fault::Range => Refusal::LineOutOfRange { line },
     }
 }
 
@@ -66,12 +62,12 @@ pub fn read_line<'a, L: LineForm>(
     form: &L,
     text: &'a [u8],
     number: usize,
-) -> Result<Read<'a, L::Item>, Refusal>
+) -> Result<ReadLine<'a, L::Item>, Refusal>
     ensures { λ r. ⌜ Cases r (λ l. (line-says (says (now (form .entry))) number (lines (now (text .entry))) ≡ Ok (denotes (l .item))) × (lines (now (l .rest)) ≡ drop 1 (lines (now (text .entry))))) (λ e. line-says (says (now (form .entry))) number (lines (now (text .entry))) ≡ Err e) ⌝ }
 {
     let line = take_line(text, number)?;
     match form.read(line.body) {
-        Ok(item) => Ok(Read {
+        Ok(item) => Ok(ReadLine {
             item,
             rest: line.rest,
         }),

@@ -8,9 +8,8 @@ use Rattle.std.specs.declared.result.Result.{Result}
 use Rattle.std.specs.declared.result.Result.the-variants.{Ok, Err}
 use Rattle.std.specs.shelf.Lists.{All}
 use Rattle.room.specs.declared.piece.Extent.{Extent}
-use Rattle.room.specs.declared.refusal.Layer.the-variants.{Sheet}
 use Rattle.room.specs.declared.refusal.Refusal.{Refusal}
-use Rattle.room.specs.declared.refusal.Refusal.the-variants.{LineUnreadable, LineMissing, LineLeftOver, LineMalformed, OutOfRange}
+use Rattle.room.specs.declared.refusal.Refusal.the-variants.{LineUnreadable, LineMissing, LineLeftOver, LineMalformed, LineOutOfRange}
 use Rattle.room.specs.declared.walls.Cell.the-variants.{Wall, Open}
 use Rattle.forms.specs.declared.contents.Mode.the-variants.{Strict}
 use Rattle.sheet.specs.Meaning.{meaning}
@@ -55,8 +54,8 @@ worked-sheets =
     ∷ (refused (codes "sheet 1 strict 1 0 0" ∷ []) (LineMissing 2)
     ∷ (refused (codes "sheet 1 strict 1 0 0" ∷ (codes "piece 1 0 0" ∷ ([] ∷ []))) (LineLeftOver 3)
     ∷ (refused (codes "sheet 1 strict 1 0 0" ∷ (codes "piece 1 0" ∷ [])) (LineMalformed 2)
-    ∷ (refused (codes "sheet 1 strict 1 0 0" ∷ (codes "piece 1 1 0" ∷ [])) (OutOfRange Sheet 2)
-    ∷ (refused (codes "sheet 1 strict 1 0 1" ∷ (codes "piece 1 5 4" ∷ (codes "wall x" ∷ []))) (OutOfRange Sheet 2)
+    ∷ (refused (codes "sheet 1 strict 1 0 0" ∷ (codes "piece 1 1 0" ∷ [])) (LineOutOfRange 2)
+    ∷ (refused (codes "sheet 1 strict 1 0 1" ∷ (codes "piece 1 5 4" ∷ (codes "wall x" ∷ []))) (LineOutOfRange 2)
     ∷ [])))))))
 
 abbrev pub Worked-sheets : Type 0

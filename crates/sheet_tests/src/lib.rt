@@ -3,11 +3,9 @@
 ghost use Rattle.sheet_tests.specs.Worked.{Worked-sheets};
 
 /// The worked sheets mean what they should.
-pub fn worked_sheets_stand() -> u8
+pub fn worked_sheets_stand()
     ensures { λ _. ⌜ Worked-sheets ⌝ }
-{
-    0
-}
+{}
 
 #[cfg(test)]
 mod tests {
@@ -30,7 +28,7 @@ mod tests {
         "sheet 2 strict 3 1 2\npiece 3 1 0 1 0 1\npiece 2 1 0 2 0 1\npiece 1 1 0 3 0 1\nbefore 0 2 0 0\nwall ....\nwall ...#\n";
 
     // Texts that are refused, with the line that says so.
-    const REFUSED: [(&str, &str); 40] = [
+    const REFUSED: [(&str, &str); 49] = [
         ("", "refused 3 sheet 1\n"),
         ("\n", "refused 4 sheet 1\n"),
         ("sheet 1 strict 1 0 0", "refused 2 sheet 1\n"),
@@ -127,6 +125,39 @@ mod tests {
         (
             "sheet 1 strict 1 0 1\npiece 1 5 4\nwall x\n",
             "refused 5 sheet 2\n",
+        ),
+        (
+            "sheet 1 strict 2 1 0\npiece 1 0 0\npiece 1 0 0\nbefore 0 1 0 0",
+            "refused 2 sheet 4\n",
+        ),
+        (
+            "sheet 1 strict 2 1 0\npiece 1 0 0\npiece 1 0 0\n",
+            "refused 3 sheet 4\n",
+        ),
+        (
+            "sheet 1 strict 2 1 0\npiece 1 0 0\npiece 1 0 0\nwall #\n",
+            "refused 4 sheet 4\n",
+        ),
+        (
+            "sheet 1 strict 2 1 0\npiece 1 0 0\npiece 1 0 0\nbefore -1 1 0 0\n",
+            "refused 5 sheet 4\n",
+        ),
+        ("sheet 1 strict 1 0 1\npiece 1 0 0\n", "refused 3 sheet 3\n"),
+        (
+            "sheet 1 strict 1 0 1\npiece 1 0 0\nwall #",
+            "refused 2 sheet 3\n",
+        ),
+        (
+            "sheet 1 strict 1 0 1\npiece 1 0 0\nwall\x1f#\n",
+            "refused 2 sheet 3\n",
+        ),
+        (
+            "sheet 1 strict 1 0 1\npiece 1 0 0\nwall ~\n",
+            "refused 4 sheet 3\n",
+        ),
+        (
+            "sheet 1 strict 1 0 1\npiece 1 0 0\nwall # #\n",
+            "refused 4 sheet 3\n",
         ),
     ];
 
@@ -274,11 +305,20 @@ mod tests {
         for order in orders.as_slice() {
             check_eq(order.before, 0)?;
             check_eq(order.after, 2)?;
+            check_eq(order.axis, 0)?;
+            check_eq(order.gap, 0)?;
         }
-        for row in walls.as_slice() {
+        let mut found = 0;
+        for (r, row) in walls.as_slice().iter().enumerate() {
             check_eq(row.len(), 4)?;
+            for (c, cell) in row.as_slice().iter().enumerate() {
+                if let Cell::Wall = cell {
+                    check_eq((r, c), (1, 3))?;
+                    found = 1;
+                }
+            }
         }
-        Ok(())
+        check_eq(found, 1)
     }
 
     #[test]

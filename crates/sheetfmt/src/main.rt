@@ -44,3 +44,21 @@ fn run(rt: &LibcRuntime) -> Result<(), AnyError> {
 fn main(rt: LibcRuntime) -> Result<(), AnyError> {
     rt.report(run(&rt))
 }
+
+#[cfg(test)]
+mod tests {
+    use super::*;
+    use std::test::*;
+
+    // the whole of a short input is read, and of a long one as much as there is room for
+    #[test]
+    fn fills() -> Result<(), Fail> {
+        let mut buffer = [0u8; 8];
+        let mut input: &[u8] = b"wall";
+        check_eq(fill(&mut input, &mut buffer)?, 4)?;
+        check_eq(buffer, *b"wall\0\0\0\0")?;
+        let mut input: &[u8] = b"wall #.#.";
+        check_eq(fill(&mut input, &mut buffer)?, 8)?;
+        check_eq(buffer, *b"wall #.#")
+    }
+}

@@ -49,10 +49,10 @@ pub fn numeral(item: &[u8]) -> Option<i32>
     }
 }
 
-/// The numbers of a line, in order; a place that is not in use holds 0.
+/// The numbers of a line, in order; past them it holds anything.
 pub type Numbers = [i32; MAX_NUMBERS];
 
-/// The numbers of just `count` items, at most `MAX_NUMBERS`.
+/// The numbers of just `count` items, at most `MAX_NUMBERS`. No text is no item.
 pub fn numbers(text: Option<&[u8]>, count: usize) -> Option<Numbers>
     ensures { λ r. ⌜ mapped (take count) r ≡ cond (leb count 9) (numbers-of count (items-after (text .entry))) None ⌝ }
 {
