@@ -6,6 +6,7 @@ ghost use lib.ListN.{length};
 ghost use Rattle.std.specs.Results.{Cases};
 use canon::format::reply;
 use sheet::reader::MAX_SHEET;
+use std::alloc::Global;
 use std::error::AnyError;
 use std::io;
 use std::io::Read;
@@ -32,12 +33,16 @@ fn fill<I: Read>(input: &mut I, buffer: &mut [u8]) -> io::Result<usize>
     Ok(filled)
 }
 
-fn run(rt: &LibcRuntime) -> Result<(), AnyError> {
+/// What is to be printed for an input. What follows the first `ROOM` bytes does not change it.
+fn answer<I: Read>(input: &mut I, heap: Global) -> Result<String, AnyError> {
     let mut buffer = [0u8; ROOM];
-    let mut input = rt.stdin();
-    let filled = fill(&mut input, &mut buffer)?;
-    let answer = reply(rt.alloc(), &buffer[0..filled])?;
-    rt.print(answer.as_str())?;
+    let filled = fill(input, &mut buffer)?;
+    Ok(reply(heap, &buffer[0..filled])?)
+}
+
+fn run(rt: &LibcRuntime) -> Result<(), AnyError> {
+    let text = answer(&mut rt.stdin(), rt.alloc())?;
+    rt.print(text.as_str())?;
     Ok(())
 }
 
@@ -60,5 +65,22 @@ mod tests {
         let mut input: &[u8] = b"wall #.#.";
         check_eq(fill(&mut input, &mut buffer)?, 8)?;
         check_eq(buffer, *b"wall #.#")
+    }
+
+    // an input that is too long by one byte, or by far, is told from the longest that is read
+    #[test]
+    fn answers(rt: LibcRuntime) -> Result<(), Fail> {
+        let heap = rt.alloc();
+        for (size, want) in [
+            (16_384, "refused 2 sheet 1\n"),
+            (16_385, "refused 1 sheet 0\n"),
+            (99_999, "refused 1 sheet 0\n"),
+        ] {
+            let bytes = vec![in heap; b'x'; size]?;
+            let mut input: &[u8] = bytes.as_slice();
+            let text = answer(&mut input, heap)?;
+            check_eq(text.as_str(), want)?;
+        }
+        Ok(())
     }
 }
