@@ -1,14 +1,19 @@
 -- Lines by their first word.
 use Prim.Native.Nat.{ℕ}
-use mathlib.Core.List.{List}
+use mathlib.Core.List.{List, _++_}
 use mathlib.Core.Path.{_≡_}
 use lib.Chars.{codes}
-use denote.Ref.{now}
+use denote.Ref.{RefT, now}
+use Rattle.std.specs.Options.{Cases}
 use Rattle.std.specs.declared.option.Option.{Option}
 use Rattle.std.specs.declared.option.Option.the-variants.{Some, None}
 use Rattle.text.specs.Items.{after}
 use Rattle.forms.specs.declared.line.Line.{Line}
 use Rattle.forms.specs.declared.line.Line.the-variants.{Contents, Piece, Before, Wall}
+
+-- the text that follows the word, where the body begins with it
+abbrev pub Begins : List ℕ → List ℕ → Option (RefT (List ℕ)) → Type 0
+Begins word body r = Cases r ((rest : List ℕ) → body ≡ word ++ rest → ⊥) (λ t. body ≡ word ++ now t)
 
 -- the text of a line of each kind, where it is of that kind
 abbrev pub contents-text : Option Line → Option (List ℕ)

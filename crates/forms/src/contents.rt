@@ -6,7 +6,6 @@ ghost use Rattle.std.specs.declared.option.Option.the-variants.{Some};
 ghost use Rattle.forms.specs.Forms.{mode-word, says-contents, contents-items, contents-fit, contents-from};
 ghost use Rattle.forms.specs.Announced.{announced-by};
 ghost use Rattle.forms.specs.declared.contents.Contents.{Contents as ContentsT};
-ghost use Rattle.forms.specs.declared.fault.Fault.the-variants.{Form, Range};
 ghost use Rattle.text.specs.Items.{items};
 use crate::counts::count;
 use crate::counts::is_between;

@@ -1,11 +1,7 @@
 //! Lines by their first word.
 
-ghost use mathlib.Core.Path.{_≡_};
-ghost use mathlib.Core.List.{List, _++_};
-ghost use Prim.Native.Nat.{ℕ};
 ghost use lib.Chars.{codes};
-ghost use Rattle.std.specs.Options.{Cases as BySome};
-ghost use Rattle.forms.specs.Words.{Classified};
+ghost use Rattle.forms.specs.Words.{Begins, Classified};
 
 /// A line of each kind, with the text that follows its word and a space.
 #[derive(Clone, Copy)]
@@ -17,7 +13,7 @@ pub enum Line<'a> {
 }
 
 fn contents_text(body: &[u8]) -> Option<&[u8]>
-    ensures { λ r. ⌜ BySome r ((rest : List ℕ) → now (body .entry) ≡ codes "sheet " ++ rest → ⊥) (λ t. now (body .entry) ≡ codes "sheet " ++ now t) ⌝ }
+    ensures { λ r. ⌜ Begins (codes "sheet ") (now (body .entry)) r ⌝ }
 {
     match body {
         [b's', b'h', b'e', b'e', b't', b' ', rest @ ..] => Some(rest),
@@ -26,7 +22,7 @@ fn contents_text(body: &[u8]) -> Option<&[u8]>
 }
 
 fn piece_text(body: &[u8]) -> Option<&[u8]>
-    ensures { λ r. ⌜ BySome r ((rest : List ℕ) → now (body .entry) ≡ codes "piece " ++ rest → ⊥) (λ t. now (body .entry) ≡ codes "piece " ++ now t) ⌝ }
+    ensures { λ r. ⌜ Begins (codes "piece ") (now (body .entry)) r ⌝ }
 {
     match body {
         [b'p', b'i', b'e', b'c', b'e', b' ', rest @ ..] => Some(rest),
@@ -35,7 +31,7 @@ fn piece_text(body: &[u8]) -> Option<&[u8]>
 }
 
 fn before_text(body: &[u8]) -> Option<&[u8]>
-    ensures { λ r. ⌜ BySome r ((rest : List ℕ) → now (body .entry) ≡ codes "before " ++ rest → ⊥) (λ t. now (body .entry) ≡ codes "before " ++ now t) ⌝ }
+    ensures { λ r. ⌜ Begins (codes "before ") (now (body .entry)) r ⌝ }
 {
     match body {
         [b'b', b'e', b'f', b'o', b'r', b'e', b' ', rest @ ..] => Some(rest),
@@ -44,7 +40,7 @@ fn before_text(body: &[u8]) -> Option<&[u8]>
 }
 
 fn wall_text(body: &[u8]) -> Option<&[u8]>
-    ensures { λ r. ⌜ BySome r ((rest : List ℕ) → now (body .entry) ≡ codes "wall " ++ rest → ⊥) (λ t. now (body .entry) ≡ codes "wall " ++ now t) ⌝ }
+    ensures { λ r. ⌜ Begins (codes "wall ") (now (body .entry)) r ⌝ }
 {
     match body {
         [b'w', b'a', b'l', b'l', b' ', rest @ ..] => Some(rest),

@@ -13,6 +13,7 @@ use crate::line::classify;
 use room::array_vec::ArrayVec;
 use room::limits::MAX_AXES;
 use room::piece::Extent;
+use room::piece::NO_EXTENT;
 use text::numerals::Numbers;
 use text::numerals::numbers;
 
@@ -43,11 +44,7 @@ fn extents(axes: usize, numbers: &Numbers) -> Extents
     requires { ⌜ axes ≤ 3 ⌝ }
     ensures { λ r. ⌜ listed r ≡ extents-of axes (now (numbers .entry)) ⌝ }
 {
-    let mut extents = ArrayVec::new(Extent {
-        length: 0,
-        lower: 0,
-        upper: 0,
-    });
+    let mut extents = ArrayVec::new(NO_EXTENT);
     for axis in 0..axes {
         let _ = extents.push(extent(axes, axis, numbers));
     }

@@ -12,5 +12,13 @@ pub struct Order {
     pub gap: i32,
 }
 
+/// Fills places that are not in use.
+pub const NO_ORDER: Order = Order {
+    before: 0,
+    after: 0,
+    axis: 0,
+    gap: 0,
+};
+
 /// The orders of a room.
 pub type Orders = ArrayVec<Order, MAX_ORDERS>;

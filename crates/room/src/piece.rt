@@ -29,6 +29,13 @@ pub struct Extent {
     pub upper: i32,
 }
 
+/// Fills places that are not in use.
+pub const NO_EXTENT: Extent = Extent {
+    length: 0,
+    lower: 0,
+    upper: 0,
+};
+
 impl Extent {
     /// Whether the length and the ends are within the limits, and the lower end is not above the upper.
     pub fn fits(&self) -> bool

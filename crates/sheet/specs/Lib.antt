@@ -3,3 +3,4 @@ pub mod Held
 pub mod Lay
 pub mod Meaning
 pub mod Plan
+pub mod Walked

@@ -15,6 +15,7 @@ ghost use Rattle.forms.specs.Within.{Within};
 ghost use Rattle.sheet.specs.Fits.{Fits};
 ghost use Rattle.sheet.specs.Held.{plan-of, rows-of};
 ghost use Rattle.sheet.specs.Plan.{contents-of};
+ghost use Rattle.sheet.specs.Walked.{Walked};
 ghost use Rattle.sheet.specs.Meaning.{meaning, line-says, bodies as bodies-say};
 use crate::walk::ReadLine;
 use crate::walk::read_each;
@@ -32,9 +33,9 @@ use forms::wall::ReadsWall;
 use forms::wall::WallLine;
 use room::array_vec::ArrayVec;
 use room::limits::MAX_PIECES;
-use room::orders::Order;
+use room::orders::NO_ORDER;
 use room::orders::Orders;
-use room::piece::Extent;
+use room::piece::NO_EXTENT;
 use room::refusal::Refusal;
 use room::walls::Cell;
 use room::walls::WallMap;
@@ -52,26 +53,10 @@ pub struct Sheet {
     walls: WallMap,
 }
 
-fn no_extents() -> Extents {
-    ArrayVec::new(Extent {
-        length: 0,
-        lower: 0,
-        upper: 0,
-    })
-}
-
-fn no_order() -> Order {
-    Order {
-        before: 0,
-        after: 0,
-        axis: 0,
-        gap: 0,
-    }
-}
-
 /// Reads the first line.
 fn read_contents(text: &[u8]) -> Result<ReadLine<'_, Contents>, Refusal>
-    ensures { λ r. ⌜ Cases r (λ l. (line-says says-contents 1 (lines (now (text .entry))) ≡ Ok (l .item)) × (lines (now (l .rest)) ≡ drop 1 (lines (now (text .entry)))) × Within (l .item)) (λ e. line-says says-contents 1 (lines (now (text .entry))) ≡ Err e) ⌝ }
+    ensures walked { λ r. ⌜ Walked (line-says says-contents 1 (lines (now (text .entry)))) (drop 1 (lines (now (text .entry)))) (λ l. l .item) (λ l. lines (now (l .rest))) r ⌝ }
+    ensures within { λ r. ⌜ made r (λ l. Within (l .item)) ⌝ }
 {
     read_line(&ContentsLine {}, text, 1)
 }
@@ -88,10 +73,16 @@ fn read_bodies(contents: &Contents, text: &[u8]) -> Result<Sheet, Refusal>
         orders,
         rows,
     } = *contents;
-    let read = read_each(&PieceLine { axes }, no_extents(), text, 2, pieces)?;
+    let read = read_each(
+        &PieceLine { axes },
+        ArrayVec::new(NO_EXTENT),
+        text,
+        2,
+        pieces,
+    )?;
     let ordered = read_each(
         &BeforeLine { axes, pieces },
-        no_order(),
+        NO_ORDER,
         read.rest,
         2 + pieces,
         orders,

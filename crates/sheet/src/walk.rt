@@ -4,10 +4,9 @@ ghost use mathlib.Core.Path.{_≡_};
 ghost use mathlib.Core.List.{map};
 ghost use Prim.Native.Nat.{_+_, _≤_, _<_, _^_};
 ghost use lib.ListN.{drop};
-ghost use Rattle.std.specs.Results.{Cases};
-ghost use Rattle.std.specs.declared.result.Result.the-variants.{Ok, Err};
 ghost use Rattle.room.specs.Listed.{listed};
 ghost use Rattle.text.specs.Lines.{lines};
+ghost use Rattle.sheet.specs.Walked.{Walked};
 ghost use Rattle.sheet.specs.Meaning.{line-text, line-says, each-says, refusal-at};
 use forms::fault::Fault;
 use forms::form::LineForm;
@@ -43,7 +42,7 @@ fn refusal(fault: Fault, line: usize) -> Refusal
 
 /// Takes the next line, which has this number.
 fn take_line(text: &[u8], number: usize) -> Result<Taken<'_>, Refusal>
-    ensures { λ r. ⌜ Cases r (λ t. (line-text number (lines (now (text .entry))) ≡ Ok (now (t .body))) × (lines (now (t .rest)) ≡ drop 1 (lines (now (text .entry))))) (λ e. line-text number (lines (now (text .entry))) ≡ Err e) ⌝ }
+    ensures { λ r. ⌜ Walked (line-text number (lines (now (text .entry)))) (drop 1 (lines (now (text .entry)))) (λ t. now (t .body)) (λ t. lines (now (t .rest))) r ⌝ }
 {
     let Some(line) = split_line(text) else {
         return Err(Refusal::LineMissing { line: number });
@@ -63,7 +62,7 @@ pub fn read_line<'a, L: LineForm>(
     text: &'a [u8],
     number: usize,
 ) -> Result<ReadLine<'a, L::Item>, Refusal>
-    ensures { λ r. ⌜ Cases r (λ l. (line-says (says (now (form .entry))) number (lines (now (text .entry))) ≡ Ok (denotes (l .item))) × (lines (now (l .rest)) ≡ drop 1 (lines (now (text .entry))))) (λ e. line-says (says (now (form .entry))) number (lines (now (text .entry))) ≡ Err e) ⌝ }
+    ensures { λ r. ⌜ Walked (line-says (says (now (form .entry))) number (lines (now (text .entry)))) (drop 1 (lines (now (text .entry)))) (λ l. denotes (l .item)) (λ l. lines (now (l .rest))) r ⌝ }
 {
     let line = take_line(text, number)?;
     match form.read(line.body) {
@@ -92,7 +91,7 @@ pub fn read_each<'a, L: LineForm, const N: usize>(
 ) -> Result<ReadAll<'a, L::Item, N>, Refusal>
     requires room { ⌜ count ≤ N ⌝ }
     requires few { ⌜ number + count < 2 ^ 64 ⌝ }
-    ensures { λ r. ⌜ Cases r (λ a. (each-says (says (now (form .entry))) number count (lines (now (text .entry))) ≡ Ok (map denotes (listed (a .items)))) × (lines (now (a .rest)) ≡ drop count (lines (now (text .entry))))) (λ e. each-says (says (now (form .entry))) number count (lines (now (text .entry))) ≡ Err e) ⌝ }
+    ensures { λ r. ⌜ Walked (each-says (says (now (form .entry))) number count (lines (now (text .entry)))) (drop count (lines (now (text .entry)))) (λ a. map denotes (listed (a .items))) (λ a. lines (now (a .rest))) r ⌝ }
 {
     let mut items = ArrayVec::new(blank);
     let mut rest = text;
