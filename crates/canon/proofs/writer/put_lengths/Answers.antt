@@ -1,19 +1,14 @@
 use native.Mathlib.Omega.{arith}
 use borrow.Author.Needs.{needs}
-use lib.IntN.{pos}
 use lib.ListN.{getD}
 use mir.Syntax.{w32}
 use mir.Val.{SFits}
 use Rattle.std.proofs.shelf.Signed.{toZ-ofZ}
 use Rattle.std.specs.Of.String.{string-bytes}
-use Rattle.room.specs.declared.piece.Extent.{Extent}
+use Rattle.sheet.proofs.Laying.{no-extent}
 use Rattle.canon.specs.Canonical.{spaced}
 use Rattle.canon.proofs.Joining.{joined-again, joined-all}
 use Rattle.canon.proofs.writer.put_lengths.Needs as need
-
--- what a read past the end of a slice stands for
-abbrev no-extent : Extent
-no-extent = record { length = pos 0; lower = pos 0; upper = pos 0 }
 
 pub loop-extent-again : need.loop-extent-again
 loop-extent-again c =
