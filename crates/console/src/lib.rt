@@ -1,5 +1,7 @@
 //! What the programs share: a sheet's text is read from an input, and one text is printed for it.
 
+#![tactic(auto)]
+
 ghost use Rattle.std.specs.Prelude.{◌≤◌, length, IfOk};
 
 use sheet::reader::MAX_SHEET;

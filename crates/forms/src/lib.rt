@@ -1,5 +1,7 @@
 //! What each kind of line of a sheet says: its form first, then the ranges of its numbers.
 
+#![tactic(auto)]
+
 pub mod before;
 pub mod contents;
 mod counts;

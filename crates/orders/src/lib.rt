@@ -1,5 +1,7 @@
 //! The rule of orders between pieces: on an axis, one piece ends before another begins.
 
+#![tactic(auto)]
+
 pub mod held;
 mod shut;
 

@@ -1,5 +1,7 @@
 //! The rules that no two pieces overlap: strict, and nonstrict, under which a piece of length 0 is in nobody's way.
 
+#![tactic(auto)]
+
 ghost use Rattle.std.specs.Prelude.{◌≡◌, ℕ, ◌<◌, ◌≤◌, Bool, true, pos, ◌+ℤ◌, ◌-ℤ◌, Decides};
 ghost use Rattle.room.specs.Fit.{AxisLimits, Limits};
 ghost use Rattle.room.specs.Seen.{Box as BoxT, Holds, on_axis, point_of, box_of};

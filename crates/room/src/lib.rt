@@ -1,5 +1,7 @@
 //! The vocabulary of rooms: lists with a fixed capacity, records of pieces, points, boxes, orders, wall maps and refusals.
 
+#![tactic(auto)]
+
 pub mod array_vec;
 pub mod limits;
 pub mod orders;

@@ -1,5 +1,7 @@
 //! Tests of the rules and of the questions, on examples.
 
+#![tactic(auto)]
+
 #[cfg(test)]
 mod tests {
     use orders::OrderRule;

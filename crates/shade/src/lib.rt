@@ -1,3 +1,5 @@
 //! Pictures of which origins a rule shuts.
 
+#![tactic(auto)]
+
 pub mod picture;

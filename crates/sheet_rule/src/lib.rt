@@ -1,5 +1,7 @@
 //! The rules of a room sheet, held together.
 
+#![tactic(auto)]
+
 ghost use Rattle.std.specs.Prelude.{◌≡◌};
 ghost use Rattle.room.specs.Listed.{listed, rows_of};
 ghost use Rattle.rule.specs.Questions.{Answers};

@@ -1,5 +1,7 @@
 //! What reading and formatting sheets should do on examples.
 
+#![tactic(auto)]
+
 ghost use Rattle.sheet_tests.specs.Worked.{WorkedSheets};
 
 /// The worked sheets mean what they should.

@@ -1,6 +1,8 @@
 //! `sheetfmt`: a room sheet from standard input, in its canonical form on standard output, or one line
 //! `refused NUMBER LAYER LINE`.
 
+#![tactic(auto)]
+
 use canon::format::reply;
 use console::{Replies, run};
 use std::alloc::{AllocError, Global};

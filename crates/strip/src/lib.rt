@@ -1,5 +1,7 @@
 //! An example of a house rule: no piece may stand with its origin in a strip of an axis.
 
+#![tactic(auto)]
+
 ghost use Rattle.std.specs.Prelude.{◌≡◌, ◌<◌};
 ghost use Rattle.room.specs.Seen.{box_of};
 ghost use Rattle.rule.specs.Gathered.{gathered};

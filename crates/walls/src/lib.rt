@@ -1,5 +1,7 @@
 //! The rule of a wall map: no piece covers a wall cell.
 
+#![tactic(auto)]
+
 ghost use Rattle.std.specs.Prelude.{◌≡◌, ℕ, ◌+◌, ◌<◌, ◌≤◌, true, false, length, pos, ◌≤ℤ◌, ◌<ℤ◌, MatchOption, slice_index_or};
 ghost use Rattle.room.specs.Limits.{max_cells, max_rows};
 ghost use Rattle.room.specs.Listed.{rows_of};
