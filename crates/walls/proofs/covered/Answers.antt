@@ -5,8 +5,8 @@ use Rattle.walls.proofs.covered.Goals as goal
 
 pub returns : goal.returns
 returns c =
-    let from = c.cells-below-from in
-    let to = c.cells-below-to in
+    let from = c.cells_below-from in
+    let to = c.cells_below-to in
     record {
       most = to.ensures.most;
       cells = λ cell here. (

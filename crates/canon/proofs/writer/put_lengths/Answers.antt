@@ -8,7 +8,7 @@ use Rattle.canon.proofs.writer.put_lengths.Goals as goal
 pub loop-extent-preserved : goal.loop-extent-preserved
 loop-extent-preserved c =
     joined_again (λ e. spaced e.length) (string_bytes c.args.out.now) c.args.extents.now c.loop-extent.extent-index no_extent (string_bytes c.loop-extent.out) (string_bytes c.write.new.self) (omega arith) c.loop-extent.invariant
-    (let fits : SFits w32 (get_or c.args.extents.now c.loop-extent.extent-index no_extent).length = search rules in simp to_z-of_z at c.in-ok-write.ensures.bytes)
+    (let fits : SFits w32 (get_or c.args.extents.now c.loop-extent.extent-index no_extent).length = search rules in simp to_z-of_z at c.in_ok-write.ensures.bytes)
 
 pub returns : goal.returns
 returns c = joined_all (λ e. spaced e.length) (string_bytes c.args.out.now) c.args.extents.now c.loop-extent.extent-index (string_bytes c.loop-extent.out) (omega arith) c.loop-extent.invariant

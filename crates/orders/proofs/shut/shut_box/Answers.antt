@@ -5,10 +5,10 @@ use Rattle.orders.proofs.shut.shut_box.Goals as goal
 
 pub returns-then-piece-entry : goal.returns-then-piece-entry
 returns-then-piece-entry c =
-    same_before c.args.records.now c.args.piece c.args.entry.now c.with-end.result _ c.requires.applies.legal c.if-piece-entry.true c.with-end.ensures
-    (let e = c.first-shut.ensures in let v = c.max-first.ensures.value in grind (arith, ints, to_z-of_z))
+    same_before c.args.records.now c.args.piece c.args.entry.now c.with_end.result _ c.requires.applies.legal c.if-piece-entry.true c.with_end.ensures
+    (let e = c.first_shut.ensures in let v = c.max-first.ensures.value in grind (arith, ints, to_z-of_z))
 
 pub returns-else-piece-entry : goal.returns-else-piece-entry
 returns-else-piece-entry c =
-    same_after c.args.records.now c.args.piece c.args.entry.now c.with-end-else-piece-entry.result _ c.requires.applies.legal (is_after c.args.piece c.args.entry.now c.requires.named c.if-piece-entry.false) c.with-end-else-piece-entry.ensures
-    (let e = c.last-shut.ensures in let v = c.min-last.ensures.value in grind (arith, ints, to_z-of_z))
+    same_after c.args.records.now c.args.piece c.args.entry.now c.with_end-else-piece-entry.result _ c.requires.applies.legal (is_after c.args.piece c.args.entry.now c.requires.named c.if-piece-entry.false) c.with_end-else-piece-entry.ensures
+    (let e = c.last_shut.ensures in let v = c.min-last.ensures.value in grind (arith, ints, to_z-of_z))

@@ -7,7 +7,7 @@ use Rattle.overlap.specs.Clash.{clash_box, overlap_shut}
 use Rattle.overlap.specs.Clashing.{decides_shut}
 use Rattle.overlap.proofs.Paired.{box_seen, ends_fit, exempt_seen, rival_shuts, rivals_seen}
 use Rattle.overlap.proofs.OverlapRule.cover.Goals as goal
-use Rattle.overlap.proofs.OverlapRule.cover.Goals.{else-is-other-via-then-is-other+then-clashes-at+else-not-exempts, else-is-other-via-then-is-other+else-clashes-at, else-is-other-via-else-is-other}
+use Rattle.overlap.proofs.OverlapRule.cover.Goals.{else-is_other-via-then-is_other+then-clashes_at+else-not-exempts, else-is_other-via-then-is_other+else-clashes_at, else-is_other-via-else-is_other}
 
 pub returns-then-not-exempts : goal.returns-then-not-exempts
 returns-then-not-exempts c =
@@ -18,9 +18,9 @@ returns-then-not-exempts c =
     let j = c.loop-j.j in
     let x = point_of k c.args.point.now.origins in
     let seen = box_seen mode k rs i j in
-    let held = c.if-clashes-at.ensures.0 refl in
-    let same = c.clash-region.ensures in
-    let rival = rivals_seen mode k rs i j c.if-is-other.true (λ e. both_ways _ c.if-not-exempts.true (c.exempts.ensures.1 e)) in
+    let held = c.if-clashes_at.ensures.0 refl in
+    let same = c.clash_region.ensures in
+    let rival = rivals_seen mode k rs i j c.if-is_other.true (λ e. both_ways _ c.if-not-exempts.true (c.exempts.ensures.1 e)) in
     same_covers (same_back same) (same_covers (same_back seen) (record {
       holds = same_holds x seen held;
       shuts = rival_shuts mode k (room_of k rs) i j c.loop-j-test.true rival;
@@ -36,10 +36,10 @@ loop-j-preserved c =
     let j = c.loop-j.j in
     let x = point_of k c.args.point.now.origins in
     below_more _ _ c.loop-j.invariant
-    (λ boxed. elim c.else-is-other.branch [
-      | else-is-other-via-then-is-other+then-clashes-at+else-not-exempts w ↦ boxed.rival.can (exempt_seen mode k rs i j (w.exempts.ensures.0 w.if-not-exempts.false))
-      | else-is-other-via-then-is-other+else-clashes-at w ↦ both_ways _ w.if-clashes-at.false (w.clashes-at.ensures.1 (same_holds x (same_back (box_seen mode k rs i j)) boxed.held))
-      | else-is-other-via-else-is-other w ↦ boxed.rival.other w.if-is-other.false
+    (λ boxed. elim c.else-is_other.branch [
+      | else-is_other-via-then-is_other+then-clashes_at+else-not-exempts w ↦ boxed.rival.can (exempt_seen mode k rs i j (w.exempts.ensures.0 w.if-not-exempts.false))
+      | else-is_other-via-then-is_other+else-clashes_at w ↦ both_ways _ w.if-clashes_at.false (w.clashes_at.ensures.1 (same_holds x (same_back (box_seen mode k rs i j)) boxed.held))
+      | else-is_other-via-else-is_other w ↦ boxed.rival.other w.if-is_other.false
     ])
 
 pub returns : goal.returns

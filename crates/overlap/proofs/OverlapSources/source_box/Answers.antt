@@ -6,17 +6,17 @@ use Rattle.rule.proofs.Boxes.{same_back, same_meets, same_trans}
 use Rattle.overlap.specs.Clash.{clash_box}
 use Rattle.overlap.proofs.Paired.{box_seen, exempt_seen, rivals_seen, source_none, source_some}
 use Rattle.overlap.proofs.OverlapSources.source_box.Goals as goal
-use Rattle.overlap.proofs.OverlapSources.source_box.Goals.{then-is-asked-via-then-is-asked, then-is-asked-via-else-is-asked+then-exempts}
+use Rattle.overlap.proofs.OverlapSources.source_box.Goals.{then-is_asked-via-then-is_asked, then-is_asked-via-else-is_asked+then-exempts}
 
-pub returns-then-is-asked : goal.returns-then-is-asked
-returns-then-is-asked c =
+pub returns-then-is_asked : goal.returns-then-is_asked
+returns-then-is_asked c =
     let mode = c.args.self.now in
     let k = c.args.axes in
     let rs = c.args.records.now in
     source_none mode k (room_of k rs) c.args.piece c.args.source
-    (λ rival met. elim c.then-is-asked.branch [
-      | then-is-asked-via-then-is-asked w ↦ rival.other w.if-is-asked.true
-      | then-is-asked-via-else-is-asked+then-exempts w ↦ rival.can (exempt_seen mode k rs c.args.piece c.args.source (w.exempts.ensures.0 w.if-exempts.true))
+    (λ rival met. elim c.then-is_asked.branch [
+      | then-is_asked-via-then-is_asked w ↦ rival.other w.if-is_asked.true
+      | then-is_asked-via-else-is_asked+then-exempts w ↦ rival.can (exempt_seen mode k rs c.args.piece c.args.source (w.exempts.ensures.0 w.if-exempts.true))
     ])
 
 pub returns-then-meets : goal.returns-then-meets
@@ -27,8 +27,8 @@ returns-then-meets c =
     let i = c.args.piece in
     let j = c.args.source in
     let r = room_of k rs in
-    let same = same_trans c.clash-region-region.ensures (box_seen mode k rs i j) in
-    let rival = rivals_seen mode k rs i j c.if-is-asked.false (λ e. both_ways _ c.if-exempts.false (c.exempts.ensures.1 e)) in
+    let same = same_trans c.clash_region-region.ensures (box_seen mode k rs i j) in
+    let rival = rivals_seen mode k rs i j c.if-is_asked.false (λ e. both_ways _ c.if-exempts.false (c.exempts.ensures.1 e)) in
     let met = meets_seen k (clash_box r i j) (on_axis (at rs i).present.lower) (on_axis (at rs i).present.upper) (same_meets _ _ same (c.if-meets.ensures.0 refl)) in
     (clash_box r i j, source_some mode k r i j rival met, same)
 
@@ -40,6 +40,6 @@ returns-else-meets c =
     let i = c.args.piece in
     let j = c.args.source in
     let r = room_of k rs in
-    let same = same_trans c.clash-region-region.ensures (box_seen mode k rs i j) in
+    let same = same_trans c.clash_region-region.ensures (box_seen mode k rs i j) in
     source_none mode k r i j
     (λ rival met. both_ways _ c.if-meets.false (c.meets.ensures.1 (same_meets _ _ (same_back same) (meets_known k (clash_box r i j) (on_axis (at rs i).present.lower) (on_axis (at rs i).present.upper) met))))

@@ -4,19 +4,19 @@ use Rattle.room.specs.Seen.{room_of}
 use Rattle.rule.specs.Gathered.{gathered}
 use Rattle.rule.proofs.Gatherings.{gathered_some, gathered_none, shown_some, shown_none}
 use Rattle.rule.proofs.listing.count_boxes.Goals as goal
-use Rattle.rule.proofs.listing.count_boxes.Goals.{then-is-some, else-is-some}
+use Rattle.rule.proofs.listing.count_boxes.Goals.{then-is_some, else-is_some}
 
 pub loop-source-preserved : goal.loop-source-preserved
 loop-source-preserved g c =
     let source = g.S.Sources.given c.args.rule.now c.args.axes (room_of c.args.axes c.args.records.now) c.args.piece in
     let n = c.loop-source.source in
-    elim c.if-is-some.branch [
-      | then-is-some w ↦
-          let (b, e) = shown_some c.args.axes (source n) c.source-box.result c.source-box.ensures (sym c.is-some.ensures ∙ w.if-is-some.true) in
+    elim c.if-is_some.branch [
+      | then-is_some w ↦
+          let (b, e) = shown_some c.args.axes (source n) c.source_box.result c.source_box.ensures (sym c.is_some.ensures ∙ w.if-is_some.true) in
           let more = ap length (gathered_some source n b e) ∙ length_push (gathered source n) b in
           (omega (arith, w.boxes-is), omega (arith, w.boxes-is))
-      | else-is-some w ↦
-          let e = shown_none c.args.axes (source n) c.source-box.result c.source-box.ensures (sym c.is-some.ensures ∙ w.if-is-some.false) in
+      | else-is_some w ↦
+          let e = shown_none c.args.axes (source n) c.source_box.result c.source_box.ensures (sym c.is_some.ensures ∙ w.if-is_some.false) in
           let more = ap length (gathered_none source n e) in
           (omega (arith, w.boxes-is), omega (arith, w.boxes-is))
     ]

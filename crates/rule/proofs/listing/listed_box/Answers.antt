@@ -5,7 +5,7 @@ use Rattle.rule.specs.Gathered.{gathered}
 use Rattle.rule.specs.Means.{SameBox, box_at}
 use Rattle.rule.proofs.Gatherings.{gathered_some, gathered_none, found_at}
 use Rattle.rule.proofs.listing.listed_box.Goals as goal
-use Rattle.rule.proofs.listing.listed_box.Goals.{in-Some+else-reached, in-default}
+use Rattle.rule.proofs.listing.listed_box.Goals.{in-Some+else-reached, in_default}
 
 pub returns-then-reached : goal.returns-then-reached
 returns-then-reached g c =
@@ -23,12 +23,12 @@ loop-source-preserved g c =
     let k = c.args.axes in
     let source = g.S.Sources.given c.args.rule.now k (room_of k c.args.records.now) c.args.piece in
     let n = c.loop-source.source in
-    elim c.match-source-box.branch [
+    elim c.match-source_box.branch [
       | in-Some+else-reached w ↦
           let (b, e, same) = w.in-Some.ensures in
           let more = ap length (gathered_some source n b e) ∙ length_push (gathered source n) b in
           omega (arith, w.left-is)
-      | in-default w ↦
-          let more = ap length (gathered_none source n w.in-default.ensures) in
+      | in_default w ↦
+          let more = ap length (gathered_none source n w.in_default.ensures) in
           omega (arith, w.left-is)
     ]

@@ -12,4 +12,4 @@ returns g c =
     let suited = g.R.Rule.suited c.args.rule.now in
     let front : take n rs ≡ take (n - 0) rs = ap (λ i. take i rs) (omega arith) in
     subst (Ready suited k n rs c.args.piece) front
-    (ready suited k n rs c.args.piece (sym c.if-not-is-board-range.ensures) c.if-records-pieces.false (ap (records_fit k) front ∙ sym c.if-not-records-fit.ensures) (sym c.if-not-suits.ensures) c.if-piece-pieces.false)
+    (ready suited k n rs c.args.piece (sym c.if-not-is_board_range.ensures) c.if-records-pieces.false (ap (records_fit k) front ∙ sym c.if-not-records_fit.ensures) (sym c.if-not-suits.ensures) c.if-piece-pieces.false)

@@ -10,16 +10,16 @@ cover-requires g c =
     let k = c.args.axes in
     let x = point_of k c.args.point.now.origins in
     record {
-      asked = c.in-ok-board.ensures.asked;
-      within = within_bounds k c.in-ok-board.board.now c.args.piece c.args.point.now.origins (subst (λ b. Holds k b x) c.bounds.ensures (c.if-holds.ensures.0 refl));
+      asked = c.in_ok-board.ensures.asked;
+      within = within_bounds k c.in_ok-board.board.now c.args.piece c.args.point.now.origins (subst (λ b. Holds k b x) c.bounds.ensures (c.if-holds.ensures.0 refl));
     }
 
 pub returns-then-holds : goal.returns-then-holds
 returns-then-holds g c =
     let k = c.args.axes in
     let x = point_of k c.args.point.now.origins in
-    let ready = c.in-ok-board.ensures in
-    let held = first_holds k c.args.pieces c.args.records.now c.in-ok-board.board.now c.args.piece x (box_of c.bounds.result) c.holds.result ready.first ready.asked.known c.bounds.ensures c.holds.ensures in (
+    let ready = c.in_ok-board.ensures in
+    let held = first_holds k c.args.pieces c.args.records.now c.in_ok-board.board.now c.args.piece x (box_of c.bounds.result) c.holds.result ready.first ready.asked.known c.bounds.ensures c.holds.ensures in (
       ready.passes _ ∙ cond-true _ _ _ (held ∙ c.if-holds.true),
       subst (λ rs. Covered k (room_of k rs) c.args.piece (g.R.Rule.shut c.args.rule.now k (room_of k rs) c.args.piece) x c.cover.result) ready.first c.cover.ensures,
     )
@@ -28,6 +28,6 @@ pub returns-else-holds : goal.returns-else-holds
 returns-else-holds g c =
     let k = c.args.axes in
     let x = point_of k c.args.point.now.origins in
-    let ready = c.in-ok-board.ensures in
-    let held = first_holds k c.args.pieces c.args.records.now c.in-ok-board.board.now c.args.piece x (box_of c.bounds.result) c.holds.result ready.first ready.asked.known c.bounds.ensures c.holds.ensures in
+    let ready = c.in_ok-board.ensures in
+    let held = first_holds k c.args.pieces c.args.records.now c.in_ok-board.board.now c.args.piece x (box_of c.bounds.result) c.holds.result ready.first ready.asked.known c.bounds.ensures c.holds.ensures in
     ready.passes _ ∙ cond-false _ _ _ (held ∙ c.if-holds.false)

@@ -6,7 +6,7 @@ use Rattle.shade.proofs.picture.put_pieces.Goals as goal
 
 pub loop-piece-preserved : goal.loop-piece-preserved
 loop-piece-preserved g c =
-    joined_next (piece_text (g.R.Rule.shut c.args.rule.now) (g.R.Rule.boxes c.args.rule.now) c.args.axes (room_of c.args.axes c.args.records.now)) (string_bytes c.args.out.now) (string_bytes c.loop-piece.out) (string_bytes c.put-piece.new.out) c.loop-piece.piece c.loop-piece.invariant c.in-ok-put-piece.ensures
+    joined_next (piece_text (g.R.Rule.shut c.args.rule.now) (g.R.Rule.boxes c.args.rule.now) c.args.axes (room_of c.args.axes c.args.records.now)) (string_bytes c.args.out.now) (string_bytes c.loop-piece.out) (string_bytes c.put_piece.new.out) c.loop-piece.piece c.loop-piece.invariant c.in_ok-put_piece.ensures
 
 pub returns : goal.returns
 unfolding shade_text

@@ -10,4 +10,4 @@ loop-axis-preserved c =
     let low : SFits w32 (on_axis c.args.lower.now c.loop-axis.axis) = search rules in
     let high : SFits w32 (on_axis c.args.upper.now c.loop-axis.axis) = search rules in
     joined_next (range_text (on_axis c.args.lower.now) (on_axis c.args.upper.now)) (string_bytes c.args.out.now) (string_bytes c.loop-axis.out) (string_bytes c.write.new.self) c.loop-axis.axis c.loop-axis.invariant
-    (simp to_z-of_z at c.in-ok-write.ensures.bytes)
+    (simp to_z-of_z at c.in_ok-write.ensures.bytes)

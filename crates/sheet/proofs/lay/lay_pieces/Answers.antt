@@ -7,8 +7,8 @@ use Rattle.sheet.proofs.lay.lay_pieces.Goals as goal
 
 pub loop-i-preserved : goal.loop-i-preserved
 loop-i-preserved c =
-    ap (set c.loop-i.records c.loop-i.i) c.lay-piece.ensures
-    ∙ ap (λ es. set c.loop-i.records c.loop-i.i (laid es (get_or c.loop-i.records c.loop-i.i no_piece))) c.as-slice.ensures.items
+    ap (set c.loop-i.records c.loop-i.i) c.lay_piece.ensures
+    ∙ ap (λ es. set c.loop-i.records c.loop-i.i (laid es (get_or c.loop-i.records c.loop-i.i no_piece))) c.as_slice.ensures.items
     ∙ ap (λ rs. set rs c.loop-i.i (laid (listed (get_or c.args.pieces.now c.loop-i.i no_extents)) (get_or rs c.loop-i.i no_piece))) c.loop-i.invariant
     ∙ piece_more (λ es. listed es) c.args.pieces.now c.loop-i.i no_extents c.args.records.now no_piece (omega arith) (omega arith)
 

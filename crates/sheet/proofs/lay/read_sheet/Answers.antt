@@ -10,8 +10,8 @@ use Rattle.sheet.proofs.lay.read_sheet.Goals as goal
 
 pub returns-then-records-contents : goal.returns-then-records-contents
 returns-then-records-contents c =
-    let p = plan_of c.in-ok-sheet.sheet in
-    let said : Ok p ≡ meaning c.args.text.now = c.in-ok-sheet.ensures.says in
+    let p = plan_of c.in_ok-sheet.sheet in
+    let said : Ok p ≡ meaning c.args.text.now = c.in_ok-sheet.ensures.says in
     let short : length c.args.records.now < length p.pieces = omega (arith, ap (λ k. k.pieces) c.contents-contents.ensures) in
     record {
       answer = sym (ap (answered (length c.args.records.now)) (sym said) ∙ cond-true _ _ _ (lt-ltb _ _ short));
@@ -20,19 +20,19 @@ returns-then-records-contents c =
       orders = refl;
     }
 
-pub lay-pieces-requires : goal.lay-pieces-requires
-lay-pieces-requires c =
+pub lay_pieces-requires : goal.lay_pieces-requires
+lay_pieces-requires c =
     omega (arith, ap (λ k. k.pieces) c.contents-contents.ensures, ap length c.pieces.ensures, length-map c.pieces.result.now (λ es. listed es))
 
 pub returns : goal.returns
 returns c =
-    let p = plan_of c.in-ok-sheet.sheet in
-    let said : Ok p ≡ meaning c.args.text.now = c.in-ok-sheet.ensures.says in
+    let p = plan_of c.in_ok-sheet.sheet in
+    let said : Ok p ≡ meaning c.args.text.now = c.in_ok-sheet.ensures.says in
     let room : length p.pieces ≤ length c.args.records.now = omega (arith, ap (λ k. k.pieces) c.contents-contents.ensures) in
     record {
       answer = ap Ok c.contents-contents.ensures ∙ sym (ap (answered (length c.args.records.now)) (sym said) ∙ cond-false _ _ _ (le-ltb _ _ room));
       records =
-          c.lay-pieces.ensures
+          c.lay_pieces.ensures
           ∙ ap (λ ps. laid_all ps c.args.records.now) c.pieces.ensures
           ∙ sym (ap (λ r. left_in_records r c.args.records.now) (sym said) ∙ cond-false _ _ _ (le-ltb _ _ room));
       walls = ap (map_ok (λ q. q.rows)) (sym said) ∙ ap Ok (sym c.walls.ensures);

@@ -17,6 +17,6 @@ within_limits item rest ls left (Err e) walked = tt
 
 pub returns : goal.returns
 returns c = record {
-  walked = c.read-line.ensures;
-  within = within_limits (λ l. l.item) (λ l. lines l.rest.now) (lines c.args.text.now) _ c.read-line.result c.read-line.ensures;
+  walked = c.read_line.ensures;
+  within = within_limits (λ l. l.item) (λ l. lines l.rest.now) (lines c.args.text.now) _ c.read_line.result c.read_line.ensures;
 }

@@ -16,24 +16,24 @@ loop-i-init g c = (
       ∙ begins (g.L.LineForm.says c.args.form.now) c.args.number c.args.count (lines c.args.text.now),
 )
 
-pub returns-in-err-line : goal.returns-in-err-line
-returns-in-err-line g c =
-    let p = err_from_is_err_and c.from-residual.result c.from-residual.ensures.1 in
+pub returns-in_err-line : goal.returns-in_err-line
+returns-in_err-line g c =
+    let p = err_from_is_err_and c.from_residual.result c.from_residual.ensures.1 in
     rw (p.1, p.2)
     (sym c.loop-i.invariant.2
-    ∙ stops (g.L.LineForm.says c.args.form.now) c.args.number c.args.count c.loop-i.i (lines c.loop-i.rest.now) (map g.L.LineForm.denotes (listed c.loop-i.items)) c.loop-i-test.true c.in-err-line.field-0.0 c.in-err-line.ensures)
+    ∙ stops (g.L.LineForm.says c.args.form.now) c.args.number c.args.count c.loop-i.i (lines c.loop-i.rest.now) (map g.L.LineForm.denotes (listed c.loop-i.items)) c.loop-i-test.true c.in_err-line.field-0.0 c.in_err-line.ensures)
 
 pub loop-i-preserved : goal.loop-i-preserved
 loop-i-preserved g c =
     let fits : c.push.result ≡ true = c.push.ensures.fits ∙ lt-ltb _ _ (omega (arith, c.loop-i.invariant.0)) in
-    let items : listed c.push.new.self ≡ listed c.loop-i.items ++ (c.in-ok-line.line.item ∷ []) = c.push.ensures.items ∙ cond-true _ _ _ fits in
-    let rest : lines c.in-ok-line.line.rest.now ≡ drop 1 (lines c.loop-i.rest.now) = c.in-ok-line.ensures.1 in (
-      ap length items ∙ length_push (listed c.loop-i.items) c.in-ok-line.line.item ∙ ap (λ n. n + 1) c.loop-i.invariant.0,
+    let items : listed c.push.new.self ≡ listed c.loop-i.items ++ (c.in_ok-line.line.item ∷ []) = c.push.ensures.items ∙ cond-true _ _ _ fits in
+    let rest : lines c.in_ok-line.line.rest.now ≡ drop 1 (lines c.loop-i.rest.now) = c.in_ok-line.ensures.1 in (
+      ap length items ∙ length_push (listed c.loop-i.items) c.in_ok-line.line.item ∙ ap (λ n. n + 1) c.loop-i.invariant.0,
       rest ∙ ap (drop 1) c.loop-i.invariant.1 ∙ drop-drop 1 c.loop-i.i (lines c.args.text.now),
-      ap (λ xs. put_on (map g.L.LineForm.denotes xs) (each_says (g.L.LineForm.says c.args.form.now) (c.args.number + (c.loop-i.i + 1)) (c.args.count - (c.loop-i.i + 1)) (lines c.in-ok-line.line.rest.now))) items
-          ∙ ap (λ xs. put_on xs (each_says (g.L.LineForm.says c.args.form.now) (c.args.number + (c.loop-i.i + 1)) (c.args.count - (c.loop-i.i + 1)) (lines c.in-ok-line.line.rest.now))) (map_push g.L.LineForm.denotes (listed c.loop-i.items) c.in-ok-line.line.item)
-          ∙ ap (λ ls. put_on (map g.L.LineForm.denotes (listed c.loop-i.items) ++ (g.L.LineForm.denotes c.in-ok-line.line.item ∷ [])) (each_says (g.L.LineForm.says c.args.form.now) (c.args.number + (c.loop-i.i + 1)) (c.args.count - (c.loop-i.i + 1)) ls)) rest
-          ∙ again (g.L.LineForm.says c.args.form.now) c.args.number c.args.count c.loop-i.i (lines c.loop-i.rest.now) (map g.L.LineForm.denotes (listed c.loop-i.items)) c.loop-i-test.true (g.L.LineForm.denotes c.in-ok-line.line.item) c.in-ok-line.ensures.0
+      ap (λ xs. put_on (map g.L.LineForm.denotes xs) (each_says (g.L.LineForm.says c.args.form.now) (c.args.number + (c.loop-i.i + 1)) (c.args.count - (c.loop-i.i + 1)) (lines c.in_ok-line.line.rest.now))) items
+          ∙ ap (λ xs. put_on xs (each_says (g.L.LineForm.says c.args.form.now) (c.args.number + (c.loop-i.i + 1)) (c.args.count - (c.loop-i.i + 1)) (lines c.in_ok-line.line.rest.now))) (map_push g.L.LineForm.denotes (listed c.loop-i.items) c.in_ok-line.line.item)
+          ∙ ap (λ ls. put_on (map g.L.LineForm.denotes (listed c.loop-i.items) ++ (g.L.LineForm.denotes c.in_ok-line.line.item ∷ [])) (each_says (g.L.LineForm.says c.args.form.now) (c.args.number + (c.loop-i.i + 1)) (c.args.count - (c.loop-i.i + 1)) ls)) rest
+          ∙ again (g.L.LineForm.says c.args.form.now) c.args.number c.args.count c.loop-i.i (lines c.loop-i.rest.now) (map g.L.LineForm.denotes (listed c.loop-i.items)) c.loop-i-test.true (g.L.LineForm.denotes c.in_ok-line.line.item) c.in_ok-line.ensures.0
           ∙ c.loop-i.invariant.2,
     )
 

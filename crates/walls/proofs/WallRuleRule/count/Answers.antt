@@ -15,7 +15,7 @@ returns c =
     let p = c.args.piece in
     let asked = c.requires.asked in
     record {
-      number = c.count-boxes.ensures;
+      number = c.count_boxes.ensures;
       lists = sound_lists (cell_given rows k (room_of k records) p) k (room_of k records) p (walls_shut rows k (room_of k records) p) (cells_of rows)
           (cells_sound rows k (room_of k records) p asked.suits asked.board.axes_to (limits_seen k records p asked.board asked.known));
     }

@@ -50,8 +50,8 @@ covered-rows-requires c =
     let l = fits c.args.axes c.args.records.now c.args.piece c.args.point.now.origins c.requires.asked.board c.requires.asked.known c.requires.within 1 (omega arith) in
     record { start = record { from = omega (arith, ints); to = omega (arith, ints) }; length = record { from = omega (arith, ints); to = omega (arith, ints) } }
 
-pub returns-in-err-place : goal.returns-in-err-place
-returns-in-err-place c =
+pub returns-in_err-place : goal.returns-in_err-place
+returns-in_err-place c =
     let k = c.args.axes in
     let records = c.args.records.now in
     let p = c.args.piece in
@@ -59,12 +59,12 @@ returns-in-err-place c =
     let on = fits k records p origins c.requires.asked.board c.requires.asked.known c.requires.within in
     let across = on 0 (omega arith) in
     let down = on 1 (omega arith) in
-    rw c.from-residual.ensures
+    rw c.from_residual.ensures
     (false_from _ (decides_shut (walls_of c.args.self.now) k (room_of k records) p (point_of k origins)) (λ (two, covers).
     let row = covers.row in
     let column = covers.column in
     let within = wall_within (walls_of c.args.self.now) row column covers.is_there in
-    both_ways _ (c.in-err-place.ensures row column
+    both_ways _ (c.in_err-place.ensures row column
     ((as_seen k (on_axis origins) (on_axis (at records p).lengths) 1 row (omega arith) (c.covered-rows.ensures.cells row within.row_below) (omega (arith, ints)) (omega (arith, ints))).0 covers.in_rows)
     ((as_seen k (on_axis origins) (on_axis (at records p).lengths) 0 column (omega arith) (c.covered-columns.ensures.cells column within.column_below) (omega (arith, ints)) (omega (arith, ints))).0 covers.in_columns))
     covers.is_there))
@@ -80,20 +80,20 @@ returns c =
     let on = fits k records p origins c.requires.asked.board c.requires.asked.known c.requires.within in
     let across = on 0 (omega arith) in
     let down = on 1 (omega arith) in
-    let found = c.in-ok-place.ensures in
-    let row = c.in-ok-place.place.row in
-    let column = c.in-ok-place.place.column in
-    let top = c.run-top-top.result in
-    let bottom = c.run-bottom-bottom.result in
+    let found = c.in_ok-place.ensures in
+    let row = c.in_ok-place.place.row in
+    let column = c.in_ok-place.place.column in
+    let top = c.run_top-top.result in
+    let bottom = c.run_bottom-bottom.result in
     let column_below : column < max_cells = omega (arith, c.covered-columns.ensures.most, found.in_columns.1) in
     let in_columns = (as_seen k (on_axis origins) (on_axis (at records p).lengths) 0 column (omega arith) (c.covered-columns.ensures.cells column column_below) (omega (arith, ints)) (omega (arith, ints))).1 found.in_columns in
     let in_rows = (as_seen k (on_axis origins) (on_axis (at records p).lengths) 1 row (omega arith) (c.covered-rows.ensures.cells row found.row_below) (omega (arith, ints)) (omega (arith, ints))).1 found.in_rows in
     let limits = limits_seen k records p c.requires.asked.board c.requires.asked.known in
     let two : 2 ≤ k = c.if-axes-lt2.false in
     let three : k ≤ 3 = c.requires.asked.board.axes_to in
-    let run = run_joined rows column top row bottom c.run-top-top.ensures.run c.run-bottom-bottom.ensures.run in
-    subst (Covers k r p (walls_shut rows k r p) (point_of k origins)) (sym (c.run-box.ensures ∙ room_box k records p two column top bottom)) (record {
-      holds = run_holds rows k r p two three limits column top bottom (point_of k origins) row c.requires.within in_columns in_rows c.run-top-top.ensures.run.order c.run-bottom-bottom.ensures.run.order;
+    let run = run_joined rows column top row bottom c.run_top-top.ensures.run c.run_bottom-bottom.ensures.run in
+    subst (Covers k r p (walls_shut rows k r p) (point_of k origins)) (sym (c.run_box.ensures ∙ room_box k records p two column top bottom)) (record {
+      holds = run_holds rows k r p two three limits column top bottom (point_of k origins) row c.requires.within in_columns in_rows c.run_top-top.ensures.run.order c.run_bottom-bottom.ensures.run.order;
       shuts = run_shuts rows k r p two three limits column top bottom (omega (arith, ints)) run;
-      ends = run_ends rows k r p two three limits column top bottom column_below c.run-bottom-bottom.ensures.within;
+      ends = run_ends rows k r p two three limits column top bottom column_below c.run_bottom-bottom.ensures.within;
     })

@@ -19,16 +19,16 @@ as_seen rows k records p source region suits is made =
     let same : box_of region ≡ cell_box (room_of k records) p source = made ∙ room_box k records p (two_axes rows k (length records) (row_of source) (column_of source) suits is) (column_of source) (row_of source) (row_of source) in
     (same, subst (λ b. Same (Meets k (box_of region) (on_axis (at records p).present.lower) (on_axis (at records p).present.upper)) (Meets k b ((room_of k records).low p) ((room_of k records).high p))) same (meets_seen k _ _ _, meets_known k _ _ _))
 
-pub returns-then-not-is-wall : goal.returns-then-not-is-wall
-returns-then-not-is-wall c =
+pub returns-then-not-is_wall : goal.returns-then-not-is_wall
+returns-then-not-is_wall c =
     given_none (walls_of c.args.self.now) c.args.axes (room_of c.args.axes c.args.records.now) c.args.piece c.args.source
-    (λ is _. both_ways _ (sym c.if-not-is-wall.ensures.is) is)
+    (λ is _. both_ways _ (sym c.if-not-is_wall.ensures.is) is)
 
 pub returns-then-meets : goal.returns-then-meets
 returns-then-meets c =
     let room = room_of c.args.axes c.args.records.now in
-    let is = sym c.if-not-is-wall.ensures.is in
-    let (same, meets) = as_seen (walls_of c.args.self.now) c.args.axes c.args.records.now c.args.piece c.args.source c.run-box-region.result c.requires.asked.suits is c.run-box-region.ensures in (
+    let is = sym c.if-not-is_wall.ensures.is in
+    let (same, meets) = as_seen (walls_of c.args.self.now) c.args.axes c.args.records.now c.args.piece c.args.source c.run_box-region.result c.requires.asked.suits is c.run_box-region.ensures in (
       cell_box room c.args.piece c.args.source,
       given_some (walls_of c.args.self.now) c.args.axes room c.args.piece c.args.source is (meets.0 (c.if-meets.ensures.0 refl)),
       record { from_same = λ d _. ap (λ b. b.from d) same; to_same = λ d _. ap (λ b. b.to d) same },
@@ -36,6 +36,6 @@ returns-then-meets c =
 
 pub returns-else-meets : goal.returns-else-meets
 returns-else-meets c =
-    let seen = as_seen (walls_of c.args.self.now) c.args.axes c.args.records.now c.args.piece c.args.source c.run-box-region.result c.requires.asked.suits in
+    let seen = as_seen (walls_of c.args.self.now) c.args.axes c.args.records.now c.args.piece c.args.source c.run_box-region.result c.requires.asked.suits in
     given_none (walls_of c.args.self.now) c.args.axes (room_of c.args.axes c.args.records.now) c.args.piece c.args.source
-    (λ is meets. false≢true (c.if-meets.ensures.1 ((seen is c.run-box-region.ensures).1.1 meets)))
+    (λ is meets. false≢true (c.if-meets.ensures.1 ((seen is c.run_box-region.ensures).1.1 meets)))

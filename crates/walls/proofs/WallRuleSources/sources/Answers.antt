@@ -4,4 +4,4 @@ use Rattle.room.specs.Listed.{listed}
 use Rattle.walls.proofs.WallRuleSources.sources.Goals as goal
 
 pub returns : goal.returns
-returns c = omega (arith, length-map (listed c.args.self.now.map) (λ row. listed row), ap length c.as-slice.ensures.items)
+returns c = omega (arith, length-map (listed c.args.self.now.map) (λ row. listed row), ap length c.as_slice.ensures.items)

@@ -13,7 +13,7 @@ pub file-requires : goal.file-requires
 file-requires c =
     let o = c.args.order in
     let rule = c.args.self.now in
-    let (fine, room) = not_refused (listed rule.entries) o (sym c.in-default.ensures) in
+    let (fine, room) = not_refused (listed rule.entries) o (sym c.in_default.ensures) in
     let legal = (decides_legal o).0 fine in
     let before = grouped_room rule.naming (listed rule.entries) o.before rule.grouped legal.before_in room in
     let after = grouped_room rule.naming (listed rule.entries) o.after rule.grouped legal.after_in room in
@@ -23,17 +23,17 @@ pub file-requires-2 : goal.file-requires-2
 file-requires-2 c =
     let o = c.args.order in
     let rule = c.args.self.now in
-    let (fine, room) = not_refused (listed rule.entries) o (sym c.in-default.ensures) in
+    let (fine, room) = not_refused (listed rule.entries) o (sym c.in_default.ensures) in
     let legal = (decides_legal o).0 fine in
     let after = grouped_room rule.naming (listed rule.entries) o.after rule.grouped legal.after_in room in
     let still = filed_room rule.naming c.file.new.naming _ o.after o c.file.ensures (λ e. legal.two (sym e)) after in
     record { known = omega arith; room = omega arith }
 
-pub invariant-of-self : goal.invariant-of-self
-invariant-of-self c =
+pub invariant_of-self : goal.invariant_of-self
+invariant_of-self c =
     let o = c.args.order in
     let rule = c.args.self.now in
-    let (fine, room) = not_refused (listed rule.entries) o (sym c.in-default.ensures) in
+    let (fine, room) = not_refused (listed rule.entries) o (sym c.in_default.ensures) in
     let grown = pushed rule.entries c.push.new.self o c.push.result room c.push.ensures.fits c.push.ensures.items in (
       subst (λ l. orders_legal l ≡ true) (sym grown) (legal_push (listed rule.entries) o rule.legal fine),
       (
@@ -44,7 +44,7 @@ invariant-of-self c =
 
 pub returns : goal.returns
 returns c =
-    let none = sym c.in-default.ensures in
+    let none = sym c.in_default.ensures in
     let (fine, room) = not_refused (listed c.args.self.now.entries) c.args.order none in
     record {
       added = (none, pushed c.args.self.now.entries c.push.new.self c.args.order c.push.result room c.push.ensures.fits c.push.ensures.items);

@@ -10,15 +10,15 @@ use Rattle.orders.specs.Ordered.{no_order}
 use Rattle.orders.proofs.Grouping.{refused_all}
 use Rattle.orders.proofs.held.OrderRule.from_orders.Goals as goal
 
-pub returns-in-err-add : goal.returns-in-err-add
-returns-in-err-add c =
-    let p = err_from_is_err_and c.from-residual.result c.from-residual.ensures.1 in
-    let items = c.as-slice-order-items.result.now in
+pub returns-in_err-add : goal.returns-in_err-add
+returns-in_err-add c =
+    let p = err_from_is_err_and c.from_residual.result c.from_residual.ensures.1 in
+    let items = c.as_slice-order-items.result.now in
     let i = c.loop-order.order-index in
-    let same = c.as-slice-order-items.ensures.items in
+    let same = c.as_slice-order-items.ensures.items in
     rw (p.1, p.2)
     (ap all_refusal (sym same)
-    ∙ refused_all items i c.in-err-add.field-0.0 (entries_of c.loop-order.rule) (omega arith) c.as-slice-order-items.ensures.bound (c.loop-order.invariant ∙ ap (take i) (sym same)) c.in-err-add.ensures.added.0)
+    ∙ refused_all items i c.in_err-add.field-0.0 (entries_of c.loop-order.rule) (omega arith) c.as_slice-order-items.ensures.bound (c.loop-order.invariant ∙ ap (take i) (sym same)) c.in_err-add.ensures.added.0)
 
 -- one more order is held
 step : (orders items held grown : List Order) (i : ℕ) → items ≡ orders → i < length items → held ≡ take i orders → grown ≡ held ++ get_or items i no_order ∷ [] → grown ≡ take (i + 1) orders
@@ -30,10 +30,10 @@ step orders items held grown i same h inv added =
 
 pub loop-order-preserved : goal.loop-order-preserved
 loop-order-preserved c =
-    step (listed c.args.orders.now) c.as-slice-order-items.result.now (entries_of c.loop-order.rule) (entries_of c.add.new.self) c.loop-order.order-index c.as-slice-order-items.ensures.items c.loop-order-test.true c.loop-order.invariant c.in-ok-add.ensures.added.1
+    step (listed c.args.orders.now) c.as_slice-order-items.result.now (entries_of c.loop-order.rule) (entries_of c.add.new.self) c.loop-order.order-index c.as_slice-order-items.ensures.items c.loop-order-test.true c.loop-order.invariant c.in_ok-add.ensures.added.1
 
 pub returns : goal.returns
 returns c =
     let orders = listed c.args.orders.now in
-    let same : entries_of c.loop-order.rule ≡ orders = c.loop-order.invariant ∙ take_all _ orders (omega (arith, ap length c.as-slice-order-items.ensures.items)) in
+    let same : entries_of c.loop-order.rule ≡ orders = c.loop-order.invariant ∙ take_all _ orders (omega (arith, ap length c.as_slice-order-items.ensures.items)) in
     (cond-true _ _ _ (subst (λ l. orders_legal l ≡ true) same c.loop-order.rule.legal), same)

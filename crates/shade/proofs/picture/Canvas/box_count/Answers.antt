@@ -4,4 +4,4 @@ use Rattle.shade.specs.Canvas.{boxes_at}
 use Rattle.shade.proofs.picture.Canvas.box_count.Goals as goal
 
 pub returns : goal.returns
-returns g c = counted_or (length (boxes_at c.args.self.now g.R.Rule.boxes)) c.unwrap-or.result c.count.result c.unwrap-or.ensures c.count.ensures.number
+returns g c = counted_or (length (boxes_at c.args.self.now g.R.Rule.boxes)) c.unwrap_or.result c.count.result c.unwrap_or.ensures c.count.ensures.number

@@ -6,5 +6,5 @@ use Rattle.shade.proofs.picture.Canvas.is_shut.Goals as goal
 pub returns : goal.returns
 returns g c =
     let canvas = c.args.self.now in
-    c.is-some.ensures
+    c.is_some.ensures
     ∙ covered_shut canvas.axes (room_at canvas) canvas.piece (g.R.Rule.shut canvas.rule.now canvas.axes (room_at canvas) canvas.piece) c.point-point.result.origins (origins_at canvas c.args.plane c.args.row c.args.column) c.cover.result c.point-point.ensures.within c.cover.ensures c.point-point.ensures.origins

@@ -13,8 +13,8 @@ returns g c =
     let region = c.listed.result in
     let box = box_at (boxes_at c.args.self.now g.R.Rule.boxes) c.args.number in
     let b₁ = string_bytes c.write.new.self in
-    let b₂ = string_bytes c.put-ranges.new.out in
+    let b₂ = string_bytes c.put_ranges.new.out in
     three_writes (string_bytes c.args.out.now) b₁ b₂ (string_bytes c.write-2.new.self) (codes "box") (ranges_text k box.from box.to) (10 ∷ [])
-    c.in-ok-write.ensures.bytes
-    (ranges_same k (on_axis region.lower) (on_axis region.upper) box.from box.to b₁ b₂ c.listed.ensures.from_same c.listed.ensures.to_same c.in-ok-put-ranges.ensures)
-    c.in-ok-write-2.ensures.bytes
+    c.in_ok-write.ensures.bytes
+    (ranges_same k (on_axis region.lower) (on_axis region.upper) box.from box.to b₁ b₂ c.listed.ensures.from_same c.listed.ensures.to_same c.in_ok-put_ranges.ensures)
+    c.in_ok-write-2.ensures.bytes

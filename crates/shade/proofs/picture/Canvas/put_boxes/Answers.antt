@@ -7,7 +7,7 @@ use Rattle.shade.proofs.picture.Canvas.put_boxes.Goals as goal
 
 pub loop-number-preserved : goal.loop-number-preserved
 loop-number-preserved g c =
-    joined_next (box_text c.args.self.now.axes (boxes_at c.args.self.now g.R.Rule.boxes)) (string_bytes c.args.out.now) (string_bytes c.loop-number.out) (string_bytes c.put-box.new.out) c.loop-number.number c.loop-number.invariant c.in-ok-put-box.ensures
+    joined_next (box_text c.args.self.now.axes (boxes_at c.args.self.now g.R.Rule.boxes)) (string_bytes c.args.out.now) (string_bytes c.loop-number.out) (string_bytes c.put_box.new.out) c.loop-number.number c.loop-number.invariant c.in_ok-put_box.ensures
 
 pub returns : goal.returns
 returns g c =

@@ -5,7 +5,7 @@ use Rattle.shade.proofs.picture.Canvas.put_picture.Goals as goal
 
 pub loop-plane-preserved : goal.loop-plane-preserved
 loop-plane-preserved g c =
-    joined_next (plane_at c.args.self.now g.R.Rule.shut) (string_bytes c.args.out.now) (string_bytes c.loop-plane.out) (string_bytes c.put-plane.new.out) c.loop-plane.plane c.loop-plane.invariant c.in-ok-put-plane.ensures
+    joined_next (plane_at c.args.self.now g.R.Rule.shut) (string_bytes c.args.out.now) (string_bytes c.loop-plane.out) (string_bytes c.put_plane.new.out) c.loop-plane.plane c.loop-plane.invariant c.in_ok-put_plane.ensures
 
 pub returns : goal.returns
 returns g c =

@@ -5,16 +5,16 @@ use Rattle.shade.specs.Picture.{boxes_text, cells, heading_text, max_cells}
 use Rattle.shade.proofs.Joining.{written_then, written_else}
 use Rattle.shade.proofs.picture.Canvas.put_piece.Goals as goal
 
-pub returns-in-ok-put-picture : goal.returns-in-ok-put-picture
-returns-in-ok-put-picture g c =
+pub returns-in_ok-put_picture : goal.returns-in_ok-put_picture
+returns-in_ok-put_picture g c =
     let canvas = c.args.self.now in
     let n = cells (room_at canvas) canvas.piece in
-    written_then (string_bytes c.args.out.now) (string_bytes c.put-heading.new.out) (string_bytes c.put-picture.new.out) (heading_text canvas.axes (room_at canvas) canvas.piece) (picture_at canvas g.R.Rule.shut) (boxes_text canvas.axes (boxes_at canvas g.R.Rule.boxes)) (leb n max_cells)
-    c.in-ok-put-heading.ensures (le-leb n max_cells (omega arith)) c.in-ok-put-picture.ensures
+    written_then (string_bytes c.args.out.now) (string_bytes c.put_heading.new.out) (string_bytes c.put_picture.new.out) (heading_text canvas.axes (room_at canvas) canvas.piece) (picture_at canvas g.R.Rule.shut) (boxes_text canvas.axes (boxes_at canvas g.R.Rule.boxes)) (leb n max_cells)
+    c.in_ok-put_heading.ensures (le-leb n max_cells (omega arith)) c.in_ok-put_picture.ensures
 
-pub returns-in-ok-put-boxes : goal.returns-in-ok-put-boxes
-returns-in-ok-put-boxes g c =
+pub returns-in_ok-put_boxes : goal.returns-in_ok-put_boxes
+returns-in_ok-put_boxes g c =
     let canvas = c.args.self.now in
     let n = cells (room_at canvas) canvas.piece in
-    written_else (string_bytes c.args.out.now) (string_bytes c.put-heading.new.out) (string_bytes c.put-boxes.new.out) (heading_text canvas.axes (room_at canvas) canvas.piece) (picture_at canvas g.R.Rule.shut) (boxes_text canvas.axes (boxes_at canvas g.R.Rule.boxes)) (leb n max_cells)
-    c.in-ok-put-heading.ensures (lt-leb n max_cells (omega arith)) c.in-ok-put-boxes.ensures
+    written_else (string_bytes c.args.out.now) (string_bytes c.put_heading.new.out) (string_bytes c.put_boxes.new.out) (heading_text canvas.axes (room_at canvas) canvas.piece) (picture_at canvas g.R.Rule.shut) (boxes_text canvas.axes (boxes_at canvas g.R.Rule.boxes)) (leb n max_cells)
+    c.in_ok-put_heading.ensures (lt-leb n max_cells (omega arith)) c.in_ok-put_boxes.ensures

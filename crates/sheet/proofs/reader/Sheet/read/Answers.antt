@@ -15,5 +15,5 @@ made_fits (Err f) text e = tt
 
 pub returns : goal.returns
 returns c =
-    let said : map_ok plan_of c.read-bodies.result ≡ meaning c.args.text.now = search rules in
-    record { says = said; fits = made_fits c.read-bodies.result c.args.text.now said }
+    let said : map_ok plan_of c.read_bodies.result ≡ meaning c.args.text.now = search rules in
+    record { says = said; fits = made_fits c.read_bodies.result c.args.text.now said }
