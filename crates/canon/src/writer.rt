@@ -24,7 +24,7 @@ pub trait Canonical {
 
 /// Writes one text after another.
 pub fn put_each<T: Canonical>(items: &[T], out: &mut String) -> fmt::Result
-    ensures { OnOk result (string_bytes out.new ≡ string_bytes out.old ++ flat_map written items.now) }
+    ensures { OnOk result (string_bytes out.new ≡ string_bytes out.old ++ flat_map T.written items.now) }
 {
     for item in items {
         item.put(out)?;
@@ -43,7 +43,8 @@ impl Canonical for Contents {
             orders,
             rows,
         } = *self;
-        write!(out, "sheet {axes} {mode} {pieces} {orders} {rows}\n")
+        write!(out, "sheet {axes} {mode} {pieces} {orders} {rows}\n")?;
+        Ok(())
     }
 }
 
@@ -53,7 +54,8 @@ impl Canonical for Extent {
 
     fn put(&self, out: &mut String) -> fmt::Result {
         let (lower, upper) = (self.lower, self.upper);
-        write!(out, " {lower} {upper}")
+        write!(out, " {lower} {upper}")?;
+        Ok(())
     }
 }
 
@@ -90,7 +92,8 @@ impl Canonical for Order {
             axis,
             gap,
         } = *self;
-        write!(out, "before {before} {after} {axis} {gap}\n")
+        write!(out, "before {before} {after} {axis} {gap}\n")?;
+        Ok(())
     }
 }
 
@@ -99,9 +102,10 @@ impl Canonical for Cell {
 
     fn put(&self, out: &mut String) -> fmt::Result {
         match self {
-            Cell::Wall => write!(out, "#"),
-            Cell::Open => write!(out, "."),
+            Cell::Wall => write!(out, "#")?,
+            Cell::Open => write!(out, ".")?,
         }
+        Ok(())
     }
 }
 

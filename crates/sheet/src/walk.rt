@@ -58,7 +58,7 @@ pub fn read_line<'a, L: LineForm>(
     text: &'a [u8],
     number: usize,
 ) -> Result<ReadLine<'a, L::Item>, Refusal>
-    ensures { Walked (line_says (says form.now) number (lines text.now)) (drop 1 (lines text.now)) (λ l. denotes l.item) (λ l. lines l.rest.now) result }
+    ensures { Walked (line_says (L.says form.now) number (lines text.now)) (drop 1 (lines text.now)) (λ l. L.denotes l.item) (λ l. lines l.rest.now) result }
 {
     let line = take_line(text, number)?;
     match form.read(line.body) {
@@ -87,7 +87,7 @@ pub fn read_each<'a, L: LineForm, const N: usize>(
 ) -> Result<ReadAll<'a, L::Item, N>, Refusal>
     requires room { count ≤ N }
     requires few { number + count < 2 ^ 64 }
-    ensures { Walked (each_says (says form.now) number count (lines text.now)) (drop count (lines text.now)) (λ a. map denotes (listed a.items)) (λ a. lines a.rest.now) result }
+    ensures { Walked (each_says (L.says form.now) number count (lines text.now)) (drop count (lines text.now)) (λ a. map L.denotes (listed a.items)) (λ a. lines a.rest.now) result }
 {
     let mut items = ArrayVec::new(blank);
     let mut rest = text;
