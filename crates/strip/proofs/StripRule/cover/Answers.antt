@@ -12,7 +12,7 @@ use Rattle.strip.proofs.StripRule.cover.Goals.{else-self-origin-via-then-self-or
 pub returns-then-origin-self : goal.returns-then-origin-self
 returns-then-origin-self c =
     let s = c.args.self.now in
-    let k = c.args.-axes in
+    let k = c.args._axes in
     let rs = c.args.records.now in
     let p = c.args.piece in
     let x = point_of k c.args.point.now.origins in
@@ -29,7 +29,7 @@ returns-then-origin-self c =
 pub returns-else-self-origin : goal.returns-else-self-origin
 returns-else-self-origin c =
     let s = c.args.self.now in
-    let k = c.args.-axes in
+    let k = c.args._axes in
     let suits : s.axis < k = ltb-true _ _ c.requires.asked.suits in
     let e = cut_below k (on_axis c.args.point.now.origins) s.axis suits in
     false_from _ (decides_shut s k (room_of k c.args.records.now) c.args.piece (point_of k c.args.point.now.origins) suits)

@@ -14,7 +14,7 @@ returns-then-meets c =
     let p = c.args.piece in
     let same = same_trans (same_few 3 c.requires.asked.board.axes_to c.region-region.ensures) (box_seen s k rs p) in
     let met = meets_seen k (seen_box s (room_of k rs) p) (on_axis (at rs p).present.lower) (on_axis (at rs p).present.upper) (same_meets _ _ same (c.if-meets.ensures.0 refl)) in
-    (seen_box s (room_of k rs) p, source_some s k rs p c.requires.asked.board c.requires.asked.known (ltb-true _ _ c.requires.asked.suits) met c.args.-source, same)
+    (seen_box s (room_of k rs) p, source_some s k rs p c.requires.asked.board c.requires.asked.known (ltb-true _ _ c.requires.asked.suits) met c.args._source, same)
 
 pub returns-else-meets : goal.returns-else-meets
 returns-else-meets c =
@@ -25,4 +25,4 @@ returns-else-meets c =
     let same = same_trans (same_few 3 c.requires.asked.board.axes_to c.region-region.ensures) (box_seen s k rs p) in
     source_none s k rs p c.requires.asked.board c.requires.asked.known (ltb-true _ _ c.requires.asked.suits)
     (λ met. both_ways _ c.if-meets.false (c.meets.ensures.1 (same_meets _ _ (same_back same) (meets_known k (seen_box s (room_of k rs) p) (on_axis (at rs p).present.lower) (on_axis (at rs p).present.upper) met))))
-    c.args.-source
+    c.args._source
