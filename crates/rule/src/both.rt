@@ -22,18 +22,18 @@ impl<P: Rule, Q: Rule> Both<P, Q> {
     /// Exactly the placements that keep each of the two keep the pair.
     pub fn new(one: P, two: Q) -> Self
         ensures held { (one_of result ≡ one) × (two_of result ≡ two) }
-        ensures kept { BothKept (P.Rule.shut one) (Q.Rule.shut two) }
+        ensures kept { BothKept (P.shut one) (Q.shut two) }
     {
         Both { one, two }
     }
 }
 
 impl<P: Rule, Q: Rule> Rule for Both<P, Q> {
-    ghost suited = { λ s k n. P.Rule.suited s.one k n && Q.Rule.suited s.two k n };
+    ghost suited = { λ s k n. P.suited s.one k n && Q.suited s.two k n };
 
-    ghost shut = { λ s. either (P.Rule.shut s.one) (Q.Rule.shut s.two) };
+    ghost shut = { λ s. either (P.shut s.one) (Q.shut s.two) };
 
-    ghost boxes = { λ s k r p. P.Rule.boxes s.one k r p ++ Q.Rule.boxes s.two k r p };
+    ghost boxes = { λ s k r p. P.boxes s.one k r p ++ Q.boxes s.two k r p };
 
     ghost narrows = { Prim.search rules };
 

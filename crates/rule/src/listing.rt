@@ -45,8 +45,8 @@ pub fn count_boxes<S: Sources>(
     records: &[Piece],
     piece: usize,
 ) -> Option<usize>
-    requires asked { Asked (serves rule.now) axes records.now piece }
-    ensures { result ≡ counted (length (gathered (given rule.now axes (room_of axes records.now) piece) (many rule.now axes (room_of axes records.now) piece))) }
+    requires asked { Asked (S.serves rule.now) axes records.now piece }
+    ensures { result ≡ counted (length (gathered (S.given rule.now axes (room_of axes records.now) piece) (S.many rule.now axes (room_of axes records.now) piece))) }
 {
     let mut boxes = 0;
     for source in 0..rule.sources(axes, records, piece) {
@@ -66,9 +66,9 @@ pub fn listed_box<S: Sources>(
     piece: usize,
     number: usize,
 ) -> Region
-    requires asked { Asked (serves rule.now) axes records.now piece }
-    requires there { number < length (gathered (given rule.now axes (room_of axes records.now) piece) (many rule.now axes (room_of axes records.now) piece)) }
-    ensures { SameBox axes (box_of result) (box_at (gathered (given rule.now axes (room_of axes records.now) piece) (many rule.now axes (room_of axes records.now) piece)) number) }
+    requires asked { Asked (S.serves rule.now) axes records.now piece }
+    requires there { number < length (gathered (S.given rule.now axes (room_of axes records.now) piece) (S.many rule.now axes (room_of axes records.now) piece)) }
+    ensures { SameBox axes (box_of result) (box_at (gathered (S.given rule.now axes (room_of axes records.now) piece) (S.many rule.now axes (room_of axes records.now) piece)) number) }
 {
     let mut left = number;
     for source in 0..rule.sources(axes, records, piece) {

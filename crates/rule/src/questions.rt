@@ -30,7 +30,7 @@ pub fn board_of<'a, R: Rule>(
     records: &'a [Piece],
     piece: usize,
 ) -> Result<&'a [Piece], Refusal>
-    ensures { MatchResult result (λ board. Ready (suited rule.now) axes pieces records.now piece board.now) (λ e. (next : OptionT RefusalT) → board_refusal (suited rule.now) axes pieces records.now piece next ≡ Some e) }
+    ensures { MatchResult result (λ board. Ready (R.suited rule.now) axes pieces records.now piece board.now) (λ e. (next : OptionT RefusalT) → board_refusal (R.suited rule.now) axes pieces records.now piece next ≡ Some e) }
 {
     if !is_board_range(axes, pieces) {
         return Err(OUT_OF_RANGE);
@@ -53,7 +53,7 @@ pub fn board_of<'a, R: Rule>(
 
 /// Whether the rule suits a board of so many axes and pieces.
 pub fn suits<R: Rule>(rule: &R, axes: usize, pieces: usize) -> Result<bool, Refusal>
-    ensures { SuitsAnswer (suited rule.now) axes pieces result }
+    ensures { SuitsAnswer (R.suited rule.now) axes pieces result }
 {
     if is_board_range(axes, pieces) {
         Ok(rule.suits(axes, pieces))
@@ -71,7 +71,7 @@ pub fn cover<R: Rule>(
     piece: usize,
     point: &Point,
 ) -> Result<Option<Region>, Refusal>
-    ensures { CoverAnswer (suited rule.now) (shut rule.now) axes pieces records.now piece point.now.origins result }
+    ensures { CoverAnswer (R.suited rule.now) (R.shut rule.now) axes pieces records.now piece point.now.origins result }
 {
     let board = board_of(rule, axes, pieces, records, piece)?;
     if board[piece].bounds().holds(axes, point) {
@@ -89,7 +89,7 @@ pub fn count<R: Rule>(
     records: &[Piece],
     piece: usize,
 ) -> Result<usize, Refusal>
-    ensures { CountAnswer (suited rule.now) (shut rule.now) (boxes rule.now) axes pieces records.now piece result }
+    ensures { CountAnswer (R.suited rule.now) (R.shut rule.now) (R.boxes rule.now) axes pieces records.now piece result }
 {
     let board = board_of(rule, axes, pieces, records, piece)?;
     match rule.count(axes, board, piece) {
@@ -107,7 +107,7 @@ pub fn listed<R: Rule>(
     piece: usize,
     number: usize,
 ) -> Result<Region, Refusal>
-    ensures { ListedAnswer (suited rule.now) (shut rule.now) (boxes rule.now) axes pieces records.now piece number result }
+    ensures { ListedAnswer (R.suited rule.now) (R.shut rule.now) (R.boxes rule.now) axes pieces records.now piece number result }
 {
     let board = board_of(rule, axes, pieces, records, piece)?;
     let countable = number < MAX_LISTED;

@@ -259,8 +259,8 @@ fn put_pieces<'a, R: Rule>(
     records: &'a [Piece],
     out: &mut String,
 ) -> fmt::Result
-    requires asked { Asked (suited rule.now) axes records.now 0 }
-    ensures { OnOk result (string_bytes out.new ≡ string_bytes out.old ++ shade_text (shut rule.now) (boxes rule.now) axes (room_of axes records.now)) }
+    requires asked { Asked (R.suited rule.now) axes records.now 0 }
+    ensures { OnOk result (string_bytes out.new ≡ string_bytes out.old ++ shade_text (R.shut rule.now) (R.boxes rule.now) axes (room_of axes records.now)) }
 {
     for piece in 0..records.len() {
         let canvas = Canvas {
@@ -290,7 +290,7 @@ pub fn shade<R: Rule>(
     pieces: usize,
     records: &[Piece],
 ) -> Result<String, Unshaded>
-    ensures { Gives (shaded (suited rule.now) (shut rule.now) (boxes rule.now) axes pieces records.now) result }
+    ensures { Gives (shaded (R.suited rule.now) (R.shut rule.now) (R.boxes rule.now) axes pieces records.now) result }
 {
     let board = match board_of(rule, axes, pieces, records, 0) {
         Ok(board) => board,

@@ -34,13 +34,11 @@ invariant_of-self c =
     let o = c.args.order in
     let rule = c.args.self.now in
     let (fine, room) = not_refused (listed rule.entries) o (sym c.in_default.ensures) in
-    let grown = pushed rule.entries c.push.new.self o c.push.result room c.push.ensures.fits c.push.ensures.items in (
-      subst (λ l. orders_legal l ≡ true) (sym grown) (legal_push (listed rule.entries) o rule.legal fine),
-      (
-        grouped_push rule.naming c.file.new.naming c.file-2.new.naming (listed rule.entries) _ o ((decides_legal o).0 fine) rule.grouped grown c.file.ensures c.file-2.ensures,
-        tt,
-      ),
-    )
+    let grown = pushed rule.entries c.push.new.self o c.push.result room c.push.ensures.fits c.push.ensures.items in
+    record {
+      legal = subst (λ l. orders_legal l ≡ true) (sym grown) (legal_push (listed rule.entries) o rule.legal fine);
+      grouped = grouped_push rule.naming c.file.new.naming c.file-2.new.naming (listed rule.entries) _ o ((decides_legal o).0 fine) rule.grouped grown c.file.ensures c.file-2.ensures;
+    }
 
 pub returns : goal.returns
 returns c =
