@@ -42,10 +42,11 @@ fn put_letter(is_shut: bool, out: &mut String) -> fmt::Result
     ensures { OnOk result (string_bytes out.new ≡ string_bytes out.old ++ letter is_shut ∷ []) }
 {
     if is_shut {
-        write!(out, "#")
+        write!(out, "#")?;
     } else {
-        write!(out, ".")
+        write!(out, ".")?;
     }
+    Ok(())
 }
 
 /// A piece of a board, and the rule that is asked about it.
@@ -60,7 +61,7 @@ struct Canvas<'a, R> {
 impl<'a, R: Rule> Canvas<'a, R> {
     /// The ends on an axis; on one that the board does not use there is the one origin 0.
     fn ends(&self, axis: usize) -> (i32, i32)
-        requires asked { Askable self.now suited }
+        requires asked { Askable self.now R.suited }
         requires axis { axis < 3 }
         ensures { SpansAt self.now axis result.0 result.1 }
     {
@@ -74,7 +75,7 @@ impl<'a, R: Rule> Canvas<'a, R> {
 
     /// How many origins there are on an axis.
     fn breadth(&self, axis: usize) -> usize
-        requires asked { Askable self.now suited }
+        requires asked { Askable self.now R.suited }
         requires axis { axis < 3 }
         ensures is { result ≡ breadth_at self.now axis }
         ensures small { result ≤ 2000001 }
@@ -85,7 +86,7 @@ impl<'a, R: Rule> Canvas<'a, R> {
 
     /// The origin at a number on an axis.
     fn origin(&self, axis: usize, number: usize) -> i32
-        requires asked { Askable self.now suited }
+        requires asked { Askable self.now R.suited }
         requires axis { axis < 3 }
         requires number { number < breadth_at self.now axis }
         ensures { result ≡ origin_at self.now axis number }
@@ -96,7 +97,7 @@ impl<'a, R: Rule> Canvas<'a, R> {
 
     /// The point at these numbers on axes 2, 1 and 0.
     fn point(&self, plane: usize, row: usize, column: usize) -> Point
-        requires asked { Askable self.now suited }
+        requires asked { Askable self.now R.suited }
         requires plane { plane < breadth_at self.now 2 }
         requires row { row < breadth_at self.now 1 }
         requires column { column < breadth_at self.now 0 }
@@ -114,11 +115,11 @@ impl<'a, R: Rule> Canvas<'a, R> {
 
     /// Whether the rule shuts that point.
     fn is_shut(&self, plane: usize, row: usize, column: usize) -> bool
-        requires asked { Askable self.now suited }
+        requires asked { Askable self.now R.suited }
         requires plane { plane < breadth_at self.now 2 }
         requires row { row < breadth_at self.now 1 }
         requires column { column < breadth_at self.now 0 }
-        ensures { result ≡ shut_at self.now shut plane row column }
+        ensures { result ≡ shut_at self.now R.shut plane row column }
     {
         let point = self.point(plane, row, column);
         self.rule
@@ -128,10 +129,10 @@ impl<'a, R: Rule> Canvas<'a, R> {
 
     /// Writes the origins along axis 0.
     fn put_row(&self, plane: usize, row: usize, out: &mut String) -> fmt::Result
-        requires asked { Askable self.now suited }
+        requires asked { Askable self.now R.suited }
         requires plane { plane < breadth_at self.now 2 }
         requires row { row < breadth_at self.now 1 }
-        ensures { OnOk result (string_bytes out.new ≡ string_bytes out.old ++ row_at self.now shut plane row) }
+        ensures { OnOk result (string_bytes out.new ≡ string_bytes out.old ++ row_at self.now R.shut plane row) }
     {
         for column in 0..self.breadth(0) {
             put_letter(self.is_shut(plane, row, column), out)?;
@@ -142,7 +143,7 @@ impl<'a, R: Rule> Canvas<'a, R> {
 
     /// Writes the origin of a plane; with fewer than three axes there is one plane, and it has no heading.
     fn put_plane_heading(&self, plane: usize, out: &mut String) -> fmt::Result
-        requires asked { Askable self.now suited }
+        requires asked { Askable self.now R.suited }
         requires plane { plane < breadth_at self.now 2 }
         ensures { OnOk result (string_bytes out.new ≡ string_bytes out.old ++ plane_heading_at self.now plane) }
     {
@@ -156,9 +157,9 @@ impl<'a, R: Rule> Canvas<'a, R> {
 
     /// Writes a plane: its heading, and the rows by axis 1.
     fn put_plane(&self, plane: usize, out: &mut String) -> fmt::Result
-        requires asked { Askable self.now suited }
+        requires asked { Askable self.now R.suited }
         requires plane { plane < breadth_at self.now 2 }
-        ensures { OnOk result (string_bytes out.new ≡ string_bytes out.old ++ plane_at self.now shut plane) }
+        ensures { OnOk result (string_bytes out.new ≡ string_bytes out.old ++ plane_at self.now R.shut plane) }
     {
         self.put_plane_heading(plane, out)?;
         for row in 0..self.breadth(1) {
@@ -169,8 +170,8 @@ impl<'a, R: Rule> Canvas<'a, R> {
 
     /// Writes the planes by axis 2.
     fn put_picture(&self, out: &mut String) -> fmt::Result
-        requires asked { Askable self.now suited }
-        ensures { OnOk result (string_bytes out.new ≡ string_bytes out.old ++ picture_at self.now shut) }
+        requires asked { Askable self.now R.suited }
+        ensures { OnOk result (string_bytes out.new ≡ string_bytes out.old ++ picture_at self.now R.shut) }
     {
         for plane in 0..self.breadth(2) {
             self.put_plane(plane, out)?;
@@ -180,10 +181,10 @@ impl<'a, R: Rule> Canvas<'a, R> {
 
     /// Writes the box at a number of the rule's list.
     fn put_box(&self, number: usize, out: &mut String) -> fmt::Result
-        requires asked { Askable self.now suited }
-        requires there { number < length (boxes_at self.now boxes) }
+        requires asked { Askable self.now R.suited }
+        requires there { number < length (boxes_at self.now R.boxes) }
         requires small { number < max_listed }
-        ensures { OnOk result (string_bytes out.new ≡ string_bytes out.old ++ box_text self.now.axes (boxes_at self.now boxes) number) }
+        ensures { OnOk result (string_bytes out.new ≡ string_bytes out.old ++ box_text self.now.axes (boxes_at self.now R.boxes) number) }
     {
         let Region { lower, upper } = self
             .rule
@@ -196,8 +197,8 @@ impl<'a, R: Rule> Canvas<'a, R> {
 
     /// How many boxes are written: as many as the rule counts.
     fn box_count(&self) -> usize
-        requires asked { Askable self.now suited }
-        ensures { result ≡ min (length (boxes_at self.now boxes)) max_listed }
+        requires asked { Askable self.now R.suited }
+        ensures { result ≡ min (length (boxes_at self.now R.boxes)) max_listed }
     {
         self.rule
             .count(self.axes, self.records, self.piece)
@@ -206,8 +207,8 @@ impl<'a, R: Rule> Canvas<'a, R> {
 
     /// Writes the boxes that the rule lists.
     fn put_boxes(&self, out: &mut String) -> fmt::Result
-        requires asked { Askable self.now suited }
-        ensures { OnOk result (string_bytes out.new ≡ string_bytes out.old ++ boxes_text self.now.axes (boxes_at self.now boxes)) }
+        requires asked { Askable self.now R.suited }
+        ensures { OnOk result (string_bytes out.new ≡ string_bytes out.old ++ boxes_text self.now.axes (boxes_at self.now R.boxes)) }
     {
         for number in 0..self.box_count() {
             self.put_box(number, out)?;
@@ -217,7 +218,7 @@ impl<'a, R: Rule> Canvas<'a, R> {
 
     /// Writes the number of the piece and its ranges.
     fn put_heading(&self, out: &mut String) -> fmt::Result
-        requires asked { Askable self.now suited }
+        requires asked { Askable self.now R.suited }
         ensures { OnOk result (string_bytes out.new ≡ string_bytes out.old ++ heading_text self.now.axes (room_at self.now) self.now.piece) }
     {
         let (axes, piece) = (self.axes, self.piece);
@@ -230,7 +231,7 @@ impl<'a, R: Rule> Canvas<'a, R> {
 
     /// How many cells a picture has.
     fn cells(&self) -> usize
-        requires asked { Askable self.now suited }
+        requires asked { Askable self.now R.suited }
         ensures { result ≡ cells_of (room_at self.now) self.now.piece }
     {
         self.breadth(0) * self.breadth(1) * self.breadth(2)
@@ -238,8 +239,8 @@ impl<'a, R: Rule> Canvas<'a, R> {
 
     /// Writes a piece: its heading, and its picture, or its boxes where the picture is too large.
     fn put_piece(&self, out: &mut String) -> fmt::Result
-        requires asked { Askable self.now suited }
-        ensures { OnOk result (string_bytes out.new ≡ string_bytes out.old ++ piece_at self.now shut boxes) }
+        requires asked { Askable self.now R.suited }
+        ensures { OnOk result (string_bytes out.new ≡ string_bytes out.old ++ piece_at self.now R.shut R.boxes) }
     {
         self.put_heading(out)?;
         let is_small = self.cells() <= MAX_CELLS;
