@@ -3,14 +3,14 @@
 
     compare_roomshade.py [ROOMS] [SEED]
 
-Run at the top of the repository, after `rt check roomshade`. Here an origin is shut by the words of the rules, tried out
+Run at the top of the repository, after `rt run` in crates/roomshade. Here an origin is shut by the words of the rules, tried out
 origin by origin: some other piece clashes at every origin within its bounds, a wall cell is covered, an order cannot be met.
 No box and no end formula is used. Pictures are compared letter by letter. Of a picture that is too large, each listed box
 must hold an origin within the bounds, and some origins are tried: an origin is shut exactly when a listed box holds it.
 """
 import itertools, random, subprocess, sys
 
-PROGRAM = 'target/bin/roomshade'
+PROGRAM = 'crates/roomshade/out/roomshade'
 MAX_CELLS = 4096
 
 

@@ -3,7 +3,7 @@
 
     tools/compare_sheetfmt.py [COUNT] [SEED]
 
-Run it after `rt check sheetfmt`. It shares no code with the crates. The first difference ends it with status 1.
+Run it at the top of the repository, after `rt run` in crates/sheetfmt. It shares no code with the crates. The first difference ends it with status 1.
 """
 import random
 import re
@@ -165,12 +165,12 @@ def main():
             if text:
                 text = damage(rng, text)
         want = expect(text)
-        got = subprocess.run(["target/bin/sheetfmt"], input=text, capture_output=True).stdout.decode()
+        got = subprocess.run(["crates/sheetfmt/out/sheetfmt"], input=text, capture_output=True).stdout.decode()
         if got != want:
             print(f"case {case}: sheetfmt prints\n{got}and should print\n{want}for\n{text!r}")
             sys.exit(1)
         if not want.startswith("refused"):
-            again = subprocess.run(["target/bin/sheetfmt"], input=got.encode(), capture_output=True).stdout.decode()
+            again = subprocess.run(["crates/sheetfmt/out/sheetfmt"], input=got.encode(), capture_output=True).stdout.decode()
             if again != got:
                 print(f"case {case}: formatted twice, a sheet changes\n{got}\n{again}")
                 sys.exit(1)

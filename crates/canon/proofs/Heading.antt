@@ -1,6 +1,6 @@
 -- The table of contents is read back from its line.
 use Rattle.std.proofs.Common.{◌≡◌, ℕ, ◌≤◌, true, List, [], ◌∷◌, ◌++◌, length, ℤ, pos, Some, Ok, codes, refl, ap, ◌∙◌, append_assoc, arith}
-use Rattle.std.specs.List.{flat_map, AllByRecursion as All}
+use Rattle.std.specs.List.{flat_map, AllByRecursion}
 use Rattle.std.specs.Fmt.{signed_decimal}
 use Rattle.std.proofs.ByRecursion.{All-append, All-weaker}
 use Rattle.std.proofs.lemmas.List.{append-nil, length-append}
@@ -40,14 +40,14 @@ contents_apart c =
 
 -- THE WORD OF A MODE
 
-mode_letters : (m : Mode) → All (InRange 97 122) (mode_word m)
+mode_letters : (m : Mode) → AllByRecursion (InRange 97 122) (mode_word m)
 mode_letters Strict = all_in_range 97 122 (mode_word Strict) refl
 mode_letters Nonstrict = all_in_range 97 122 (mode_word Nonstrict) refl
 
 mode_whole : (m : Mode) → Lacks 32 (mode_word m)
 mode_whole m = All-weaker (InRange 97 122) (λ b. b ≡ 32 → ⊥) (λ c k e. omega arith) (mode_word m) (mode_letters m)
 
-mode_shown : (m : Mode) → All (InRange 32 126) (mode_word m)
+mode_shown : (m : Mode) → AllByRecursion (InRange 32 126) (mode_word m)
 mode_shown m = All-weaker (InRange 97 122) (InRange 32 126) (λ c k. (omega arith, omega arith)) (mode_word m) (mode_letters m)
 
 mode_short : (m : Mode) → length (mode_word m) ≤ 9
@@ -61,7 +61,7 @@ module _ (c : Contents) (h : Within c) where
   small_axes : Small (pos c.axes)
   small_axes = omega (arith, h.axes_to)
 
-  small_counts : All Small (counts c)
+  small_counts : AllByRecursion Small (counts c)
   small_counts = (omega (arith, h.pieces_to), (omega (arith, h.orders_to), (omega (arith, h.rows_to), tt)))
 
   -- what follows the axes

@@ -3,7 +3,7 @@ use Rattle.std.proofs.Common.{◌≡◌, ℕ, suc, ◌<◌, ◌≤◌, true, Lis
 use lib.Signed.{mag}
 use Rattle.std.specs.Option.{option_map}
 use Rattle.std.specs.Fmt.{signed_decimal}
-use Rattle.std.specs.List.{AllByRecursion as All}
+use Rattle.std.specs.List.{AllByRecursion}
 use Rattle.std.proofs.lemmas.Fmt.{digits_decimal, digits_value-decimal, length-decimal-le, decimal_nonempty}
 use Rattle.std.proofs.ByRecursion.{All-weaker}
 use Rattle.std.proofs.lemmas.Str.Parse.{IsNumeralModel, numerals_by_fold}
@@ -34,7 +34,7 @@ module _ (n : ℕ) (h : n ≤ 1000001) where
       ∙ ap Some (digits_value-decimal own n (omega arith))
 
 -- digits alone write a number that is not negative
-numeral_digits : (ds : List ℕ) (n : ℕ) → All (InRange 48 57) ds → 0 < length ds → magnitude ds ≡ Some n → numeral ds ≡ Some (pos n)
+numeral_digits : (ds : List ℕ) (n : ℕ) → AllByRecursion (InRange 48 57) ds → 0 < length ds → magnitude ds ≡ Some n → numeral ds ≡ Some (pos n)
 numeral_digits [] n h some e = absurd (omega arith)
 numeral_digits (c ∷ ds) n h some e = cond-false _ _ _ (ne_eqb c 45 (λ k. omega arith)) ∙ ap (option_map pos) e
 
@@ -45,7 +45,7 @@ numeral_signed (pos n) h =
 numeral_signed (ℤ.negsuc n) h = ap (option_map (λ m. neg_ℤ (pos m))) (magnitude_decimal (suc n) (omega arith))
 
 -- a minus and digits
-pub signed_bytes : (z : ℤ) → Small z → All (InRange 45 57) (signed_decimal z)
+pub signed_bytes : (z : ℤ) → Small z → AllByRecursion (InRange 45 57) (signed_decimal z)
 signed_bytes (pos n) h = All-weaker (InRange 48 57) (InRange 45 57) (λ c k. (omega arith, omega arith)) (decimal n) (all_in_range 48 57 (decimal n) (digits n (omega arith)))
 signed_bytes (ℤ.negsuc n) h =
     ((omega arith, omega arith), All-weaker (InRange 48 57) (InRange 45 57) (λ c k. (omega arith, omega arith)) (decimal (suc n)) (all_in_range 48 57 (decimal (suc n)) (digits (suc n) (omega arith))))

@@ -1,6 +1,6 @@
 -- An order is read back from its line.
 use Rattle.std.proofs.Common.{◌≡◌, ℕ, ◌<◌, ◌≤◌, true, List, [], ◌∷◌, ◌++◌, ℤ, pos, ◌≤ℤ◌, Ok, codes, refl, ap, ◌∙◌, append_assoc, arith}
-use Rattle.std.specs.List.{flat_map, AllByRecursion as All}
+use Rattle.std.specs.List.{flat_map, AllByRecursion}
 use Rattle.std.specs.Fmt.{signed_decimal}
 use Rattle.std.proofs.lemmas.List.{append-nil}
 use Rattle.std.proofs.lemmas.Int.{ints}
@@ -45,7 +45,7 @@ known : (n k : ℕ) → k < n → below n (pos k) ≡ true
 known n k s = and_from _ _ (le-leb 0 k (omega arith)) (lt-ltb k n s)
 
 module _ (axes pieces : ℕ) (few_axes : axes ≤ 3) (few_pieces : pieces ≤ 24) (o : Order) (h : OrderFits axes pieces o) where
-  small_more : All Small (more_numbers o)
+  small_more : AllByRecursion Small (more_numbers o)
   small_more = (omega (arith, h.after_known), (omega (arith, h.axis_known), (small_gap o.gap h.gap_from h.gap_to, tt)))
 
   small_first : Small (pos o.before)

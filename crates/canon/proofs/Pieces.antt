@@ -1,7 +1,7 @@
 -- A piece is read back from its line.
 use Rattle.std.proofs.Common.{◌≡◌, ℕ, zero, suc, ◌+◌, ◌-◌, ◌*◌, ◌<◌, ◌≤◌, true, List, [], ◌∷◌, ◌++◌, map, length, get_or, ℤ, pos, neg_ℤ, ◌≤ℤ◌, Some, Ok, codes, sym, refl, ap, ◌∙◌, arith}
 use lib.Signed.{le_z}
-use Rattle.std.specs.List.{flat_map, AllByRecursion as All}
+use Rattle.std.specs.List.{flat_map, AllByRecursion}
 use Rattle.std.specs.Option.{option_map}
 use Rattle.std.specs.Fmt.{signed_decimal}
 use Rattle.std.proofs.lemmas.List.FromFn.{fill_by_all}
@@ -103,17 +103,17 @@ module _ (e : Extent) (h : extent_fits e ≡ true) where
   small_upper : Small e.upper
   small_upper = let p = parts in small_between e.upper (omega (arith, ints)) p.4
 
-small_ends : (es : List Extent) → All (λ e. extent_fits e ≡ true) es → All Small (flat_map ends_of es)
+small_ends : (es : List Extent) → AllByRecursion (λ e. extent_fits e ≡ true) es → AllByRecursion Small (flat_map ends_of es)
 small_ends [] h = tt
 small_ends (e ∷ es) h = (small_lower e h.0, (small_upper e h.0, small_ends es h.1))
 
-small_numbers : (es : List Extent) → All (λ e. extent_fits e ≡ true) es → All Small (piece_numbers es)
+small_numbers : (es : List Extent) → AllByRecursion (λ e. extent_fits e ≡ true) es → AllByRecursion Small (piece_numbers es)
 small_numbers es h =
     All-append Small (map (λ e. e.length) es) (flat_map ends_of es)
     (All-map Small (λ e. e.length) es (All-weaker (λ e. extent_fits e ≡ true) (λ e. Small e.length) small_length es h))
     (small_ends es h)
 
-extents_good : (es : List Extent) → All (λ e. extent_fits e ≡ true) es → extents_fit es ≡ true
+extents_good : (es : List Extent) → AllByRecursion (λ e. extent_fits e ≡ true) es → extents_fit es ≡ true
 extents_good [] h = refl
 extents_good (e ∷ es) h = and_from _ _ h.0 (extents_good es h.1)
 
@@ -126,7 +126,7 @@ piece_fit axes es few h =
     record { short = omega (arith, length_numbers es, h.each_axis); shown = shown_after (codes "piece") (flat_map spaced (piece_numbers es)) refl (spaced_shown (piece_numbers es) small) }
 
 -- the numbers are read back
-piece_read : (z : ℤ) (zs : List ℤ) → All Small (z ∷ zs) → with_some (after (codes "piece ") (codes "piece" ++ flat_map spaced (z ∷ zs))) (λ text. numbers (length (z ∷ zs)) (items text)) ≡ Some (z ∷ zs)
+piece_read : (z : ℤ) (zs : List ℤ) → AllByRecursion Small (z ∷ zs) → with_some (after (codes "piece ") (codes "piece" ++ flat_map spaced (z ∷ zs))) (λ text. numbers (length (z ∷ zs)) (items text)) ≡ Some (z ∷ zs)
 piece_read z zs h =
     ap (λ o. with_some o (λ text. numbers (length (z ∷ zs)) (items text))) (after_front (codes "piece ") (signed_decimal z ++ flat_map spaced zs))
     ∙ numbers_back z zs h.0 h.1

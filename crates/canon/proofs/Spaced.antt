@@ -1,6 +1,6 @@
 -- Numbers that are written with a space before each are read back.
 use Rattle.std.proofs.Common.{◌≡◌, suc, ◌*◌, ◌≤◌, List, [], ◌∷◌, ◌++◌, length, ℤ, Some, ap, ◌∙◌, arith}
-use Rattle.std.specs.List.{flat_map, AllByRecursion as All}
+use Rattle.std.specs.List.{flat_map, AllByRecursion}
 use Rattle.std.specs.Fmt.{signed_decimal}
 use Rattle.std.proofs.ByRecursion.{All-weaker, All-append}
 use Rattle.std.proofs.lemmas.List.{append-nil, length-append}
@@ -14,11 +14,11 @@ use Rattle.canon.specs.Canonical.{spaced}
 pub signed_whole : (z : ℤ) → Small z → Lacks 32 (signed_decimal z)
 signed_whole z h = All-weaker (InRange 45 57) (λ b. b ≡ 32 → ⊥) (λ c k e. omega arith) (signed_decimal z) (signed_bytes z h)
 
-pub signed_shown : (z : ℤ) → Small z → All (InRange 32 126) (signed_decimal z)
+pub signed_shown : (z : ℤ) → Small z → AllByRecursion (InRange 32 126) (signed_decimal z)
 signed_shown z h = All-weaker (InRange 45 57) (InRange 32 126) (λ c k. (omega arith, omega arith)) (signed_decimal z) (signed_bytes z h)
 
 -- the items of a number and of numbers after it
-pub numbers_back : (z : ℤ) (zs : List ℤ) → Small z → All Small zs → numbers (suc (length zs)) (items (signed_decimal z ++ flat_map spaced zs)) ≡ Some (z ∷ zs)
+pub numbers_back : (z : ℤ) (zs : List ℤ) → Small z → AllByRecursion Small zs → numbers (suc (length zs)) (items (signed_decimal z ++ flat_map spaced zs)) ≡ Some (z ∷ zs)
 numbers_back z [] h k =
     ap (λ t. numbers 1 (items t)) (append-nil (signed_decimal z))
     ∙ ap (numbers 1) (items_last (signed_decimal z) (signed_whole z h))
@@ -28,11 +28,11 @@ numbers_back z (y ∷ ys) h k =
     ∙ ap (λ o. put_first o (numbers (suc (length ys)) (items (signed_decimal y ++ flat_map spaced ys)))) (numeral_signed z h)
     ∙ ap (put_first (Some z)) (numbers_back y ys k.0 k.1)
 
-pub spaced_shown : (zs : List ℤ) → All Small zs → All (InRange 32 126) (flat_map spaced zs)
+pub spaced_shown : (zs : List ℤ) → AllByRecursion Small zs → AllByRecursion (InRange 32 126) (flat_map spaced zs)
 spaced_shown [] h = tt
 spaced_shown (z ∷ zs) h =
     ((omega arith, omega arith), All-append (InRange 32 126) (signed_decimal z) (flat_map spaced zs) (signed_shown z h.0) (spaced_shown zs h.1))
 
-pub spaced_short : (zs : List ℤ) → All Small zs → length (flat_map spaced zs) ≤ 9 * length zs
+pub spaced_short : (zs : List ℤ) → AllByRecursion Small zs → length (flat_map spaced zs) ≤ 9 * length zs
 spaced_short [] h = omega arith
 spaced_short (z ∷ zs) h = omega (arith, length-append (spaced z) (flat_map spaced zs), signed_short z h.0, spaced_short zs h.1)

@@ -1,6 +1,6 @@
 -- A row of the wall map is read back from its line.
 use Rattle.std.proofs.Common.{◌≡◌, ℕ, List, [], ◌∷◌, ◌++◌, map, length, Some, Ok, codes, refl, ap, ◌∙◌, arith}
-use Rattle.std.specs.List.{AllByRecursion as All}
+use Rattle.std.specs.List.{AllByRecursion}
 use Rattle.std.proofs.lemmas.List.{length-map}
 use Rattle.std.proofs.lemmas.Bool.{cond-true, le-leb}
 use Rattle.room.specs.declared.walls.Cell.{Cell}
@@ -25,7 +25,7 @@ cells_back [] = refl
 cells_back (Wall ∷ cs) = ap (cell_first (Some Wall)) (cells_back cs)
 cells_back (Open ∷ cs) = ap (cell_first (Some Open)) (cells_back cs)
 
-letters_shown : (cs : List Cell) → All (InRange 32 126) (map letter cs)
+letters_shown : (cs : List Cell) → AllByRecursion (InRange 32 126) (map letter cs)
 letters_shown [] = tt
 letters_shown (Wall ∷ cs) = ((omega arith, omega arith), letters_shown cs)
 letters_shown (Open ∷ cs) = ((omega arith, omega arith), letters_shown cs)

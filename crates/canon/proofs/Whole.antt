@@ -1,6 +1,6 @@
 -- The canonical text of a plan within the limits: its lines, its length and what it says.
 use Rattle.std.proofs.Common.{◌≡◌, ℕ, ◌+◌, ◌*◌, ◌≤◌, true, List, [], ◌∷◌, ◌++◌, map, length, drop, Ok, Result, sym, ap, ◌∙◌, arith}
-use Rattle.std.specs.List.{flat_map, AllByRecursion as All}
+use Rattle.std.specs.List.{flat_map, AllByRecursion}
 use Rattle.std.proofs.ByRecursion.{All-weaker, All-append}
 use Rattle.std.proofs.lemmas.List.{append-nil, length-append, length-map, drop-drop, drop_all}
 use Rattle.std.proofs.lemmas.Bool.{cond-false, le-ltb}
@@ -29,26 +29,26 @@ module _ (p : Plan) (h : Fits p) where
 
   -- each line of the text may stand as a line
 
-  fit_pieces : All (λ es. Fit (piece_body es)) p.pieces
+  fit_pieces : AllByRecursion (λ es. Fit (piece_body es)) p.pieces
   fit_pieces = All-weaker (PieceFits p.axes) (λ es. Fit (piece_body es)) (λ es k. piece_fit p.axes es h.axes_to k) p.pieces h.pieces_fit
 
-  fit_orders : All (λ o. Fit (order_body o)) p.orders
+  fit_orders : AllByRecursion (λ o. Fit (order_body o)) p.orders
   fit_orders = All-weaker (OrderFits p.axes (length p.pieces)) (λ o. Fit (order_body o)) (λ o k. order_fit p.axes (length p.pieces) h.axes_to h.pieces_to o k) p.orders h.orders_fit
 
-  fit_rows : All (λ cs. Fit (row_body cs)) p.rows
+  fit_rows : AllByRecursion (λ cs. Fit (row_body cs)) p.rows
   fit_rows = All-weaker RowFits (λ cs. Fit (row_body cs)) row_fit p.rows h.rows_fit
 
   -- and says what was written
 
-  back_pieces : All (λ es. says_piece p.axes (piece_body es) ≡ Ok es) p.pieces
+  back_pieces : AllByRecursion (λ es. says_piece p.axes (piece_body es) ≡ Ok es) p.pieces
   back_pieces = All-weaker (PieceFits p.axes) (λ es. says_piece p.axes (piece_body es) ≡ Ok es) (λ es k. piece_back p.axes es h.axes_from k) p.pieces h.pieces_fit
 
-  back_orders : All (λ o. says_before p.axes (length p.pieces) (order_body o) ≡ Ok o) p.orders
+  back_orders : AllByRecursion (λ o. says_before p.axes (length p.pieces) (order_body o) ≡ Ok o) p.orders
   back_orders =
       All-weaker (OrderFits p.axes (length p.pieces)) (λ o. says_before p.axes (length p.pieces) (order_body o) ≡ Ok o)
       (λ o k. order_back p.axes (length p.pieces) h.axes_to h.pieces_to o k) p.orders h.orders_fit
 
-  back_rows : All (λ cs. says_wall (row_body cs) ≡ Ok cs) p.rows
+  back_rows : AllByRecursion (λ cs. says_wall (row_body cs) ≡ Ok cs) p.rows
   back_rows = All-weaker RowFits (λ cs. says_wall (row_body cs) ≡ Ok cs) row_back p.rows h.rows_fit
 
 -- at most 121 lines of at most 97 bytes
@@ -84,7 +84,7 @@ module _ (p : Plan) (h : Fits p) where
       (lines_written piece_line piece_body piece_apart p.pieces (orders ++ rows) (fit_pieces p h)
       ∙ ap (λ ls. piece_lines p ++ ls) (lines_written order_line order_body order_apart p.orders rows (fit_orders p h) ∙ ap (λ ls. order_lines p ++ ls) last))
 
-  canonical_readable : All (λ l. readable l ≡ true) (ended (contents_body (contents_of p)) ∷ body_lines p)
+  canonical_readable : AllByRecursion (λ l. readable l ≡ true) (ended (contents_body (contents_of p)) ∷ body_lines p)
   canonical_readable = (
     fit_readable (contents_body (contents_of p)) (heading_fit (contents_of p) (announceable p h)),
     All-append (λ l. readable l ≡ true) (piece_lines p) (order_lines p ++ row_lines p) (readable_written piece_body p.pieces (fit_pieces p h))

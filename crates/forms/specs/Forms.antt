@@ -1,5 +1,5 @@
 -- What each kind of line says, from the text of the line: first its form, then the ranges of its numbers.
-use Rattle.std.specs.Prelude.{ℕ, ◌+◌, ◌-◌, ◌*◌, Bool, true, cond, not, ◌&&◌, List, [], ◌∷◌, map, length, ℤ, pos, Some, None, codes, Option, Result, ◌==◌, int_le, int_lt, nat_le, slice_index_or}
+use Rattle.std.specs.Prelude.{ℕ, ◌+◌, ◌*◌, Bool, true, cond, not, ◌&&◌, List, [], ◌∷◌, map, length, ℤ, pos, Some, None, codes, Option, Result, ◌==◌, int_le, int_lt, nat_le, slice_index_or}
 use Rattle.std.specs.List.{range_with_len}
 use Rattle.std.specs.Option.{option_map}
 use Rattle.room.specs.Limits.{max_axes, max_pieces, max_orders, max_rows, max_cells, max_length, extent_fits}

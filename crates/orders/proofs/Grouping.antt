@@ -1,6 +1,6 @@
 -- Legal entries, and how they are grouped by the pieces that they name.
 use Rattle.std.proofs.Common.{◌≡◌, ℕ, ◌<◌, ◌≤◌, Bool, true, false, cond, ◌||◌, eqb, ltb, List, [], ◌∷◌, ◌++◌, length, get_or, take, set, pos, Some, None, Decides, filter, sym, refl, ap, ◌∙◌, ⊎_elim, arith}
-use Rattle.std.specs.List.{AllByRecursion as All}
+use Rattle.std.specs.List.{AllByRecursion}
 use Rattle.std.proofs.lemmas.List.Elements.{filter-append}
 use Rattle.std.proofs.ByRecursion.{All-get_or, All-push, Decides-by_and}
 use Rattle.std.proofs.lemmas.List.{append-nil, get_or-set_same, get_or-set_other, length-take}
@@ -33,7 +33,7 @@ decides_legal o =
       λ l. d.1 (l.before_in, (l.after_in, (l.axis_in, (l.gap_from, (l.gap_to, l.two))))),
     )
 
-pub decides_all_legal : (entries : List Order) → Decides (orders_legal entries) (All Legal entries)
+pub decides_all_legal : (entries : List Order) → Decides (orders_legal entries) (AllByRecursion Legal entries)
 decides_all_legal = Decides-by_and order_legal Legal orders_legal decides_legal refl (λ _ _. refl)
 
 pub legal_push : (entries : List Order) (o : Order) → orders_legal entries ≡ true → order_legal o ≡ true → orders_legal (entries ++ o ∷ []) ≡ true

@@ -1,22 +1,22 @@
 -- A pair of records, and what the rule sees of it.
-use Rattle.std.proofs.Common.{◌≡◌, ℕ, ◌<◌, Bool, true, false, cond, ◌&&◌, ◌⊎◌, List, length, ℤ, Some, None, Decides, Option, sym, refl, ap, ◌∙◌, subst, inl, inr, ⊎_elim, arith}
+use Rattle.std.proofs.Common.{◌≡◌, ℕ, ◌<◌, ◌&&◌, List, length, Some, None, Decides, sym, ◌∙◌, subst, inl, inr, ⊎_elim, arith}
 use Rattle.std.proofs.lemmas.Int.{ints}
-use Rattle.std.proofs.lemmas.Bool.{and_parts, and_from, cond-true, cond-false}
+use Rattle.std.proofs.lemmas.Bool.{cond-true, cond-false}
 use Rattle.std.proofs.lemmas.Bool.Decides.{Decides-and}
 use Rattle.room.specs.Fit.{Board}
-use Rattle.room.specs.Seen.{Room, Point, Box, Holds, Meets, Within, at, meets, on_axis, room_of}
+use Rattle.room.specs.Seen.{Room, Box, Meets, at, meets, on_axis, room_of}
 use Rattle.room.specs.declared.piece.Piece.{Piece}
 use Rattle.room.proofs.Belows.{false_from}
 use Rattle.room.proofs.Cuts.{cut_below, common_point, meets_from, decides_meets}
 use Rattle.room.proofs.Fitting.{limits_seen}
 use Rattle.rule.specs.Gathered.{Sound}
-use Rattle.rule.specs.Means.{Covers, EndsFit, ListsBox, SameBox, Shuts}
+use Rattle.rule.specs.Means.{EndsFit, ListsBox, SameBox, Shuts}
 use Rattle.rule.proofs.Boxes.{given_some}
 use Rattle.overlap.specs.Clash.{Exempt, clash_box, clash_source, overlap_shut, rivals}
 use Rattle.overlap.specs.Ends.{PairExempt, pair_box}
 use Rattle.overlap.specs.declared.Overlap.{Overlap}
 use Rattle.overlap.specs.declared.Overlap.TheVariants.{Strict, Nonstrict}
-use Rattle.overlap.specs.Clashing.{Boxed, Rivals, decides_rivals, decides_shut}
+use Rattle.overlap.specs.Clashing.{Rivals, decides_rivals, decides_shut}
 
 module _ (mode : Overlap) (k : ℕ) (records : List Piece) (i j : ℕ) where
   pub box_seen : SameBox k (pair_box (at records i).lengths (at records j)) (clash_box (room_of k records) i j)

@@ -1,15 +1,15 @@
 -- Which placements keep the rule: those in which every pair of pieces is parted.
-use Rattle.std.proofs.Common.{◌≡◌, ℕ, ◌<◌, Bool, true, false, ◌&&◌, ◌⊎◌, ℤ, pos, ◌+ℤ◌, ◌≤ℤ◌, Decides, sym, inl, inr, ⊎_elim, arith}
+use Rattle.std.proofs.Common.{◌≡◌, ℕ, ◌<◌, false, ◌&&◌, ◌⊎◌, ◌+ℤ◌, ◌≤ℤ◌, sym, inl, inr, ⊎_elim, arith}
 use lib.Signed.{le_z}
 use Rattle.std.proofs.lemmas.Int.{ints}
 use Rattle.std.proofs.lemmas.Bool.{both_ways, and_parts, and_cases, cases_Bool, cases_order}
 use Rattle.std.proofs.lemmas.Bool.Decides.{not_from_Decides}
-use Rattle.room.specs.Seen.{Room, Point}
+use Rattle.room.specs.Seen.{Room}
 use Rattle.room.proofs.Belows.{all_or_some, false_from}
 use Rattle.room.proofs.Cuts.{decides_int_le}
 use Rattle.rule.specs.Kept.{Placement, Keeps, Same, fixed}
 use Rattle.overlap.specs.Clash.{exempt, clash_box, overlap_shut, Exempt}
-use Rattle.overlap.specs.Diffn.{diffn_k, diffn_nonstrict_k, StrictKept, NonstrictKept}
+use Rattle.overlap.specs.Diffn.{StrictKept, NonstrictKept}
 use Rattle.overlap.specs.declared.Overlap.{Overlap}
 use Rattle.overlap.specs.declared.Overlap.TheVariants.{Strict, Nonstrict}
 use Rattle.overlap.specs.Clashing.{Boxed, decides_exempt, decides_shut}

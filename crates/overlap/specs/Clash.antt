@@ -1,5 +1,5 @@
 -- What it shuts that no two pieces may overlap.
-use Rattle.std.specs.Prelude.{◌≡◌, ℕ, ◌<◌, Bool, true, false, cond, not, ◌&&◌, ◌||◌, ◌⊎◌, ℤ, pos, ◌+ℤ◌, ◌-ℤ◌, ◌≤ℤ◌, ◌<ℤ◌, Some, None, Decides, Option, ◌==◌, int_le}
+use Rattle.std.specs.Prelude.{◌≡◌, ℕ, ◌<◌, Bool, false, cond, not, ◌&&◌, ◌||◌, ◌⊎◌, ℤ, pos, ◌+ℤ◌, ◌-ℤ◌, ◌≤ℤ◌, ◌<ℤ◌, Some, None, Decides, Option, ◌==◌, int_le}
 use Rattle.room.specs.Below.{any_below}
 use Rattle.room.specs.Seen.{Room, Point, Box, Within, holds, meets}
 use Rattle.overlap.specs.declared.Overlap.{Overlap}

@@ -1,13 +1,12 @@
 -- What the tests of the rule tell, and its law.
-use Rattle.std.specs.Prelude.{◌≡◌, ℕ, ◌<◌, Bool, true, false, not, ◌&&◌, ◌||◌, eqb, ◌⊎◌, ℤ, pos, ◌≤ℤ◌, Decides, refl}
+use Rattle.std.specs.Prelude.{◌≡◌, ℕ, ◌<◌, true, ℤ, pos, Decides}
 use Rattle.std.proofs.Common.{inl, inr, ⊎_elim, sym, ◌∙◌, arith}
-use Rattle.std.specs.Int.Signed.{le_z}
 use Rattle.std.proofs.lemmas.Int.{ints}
 use Rattle.std.proofs.lemmas.Bool.Decides.{Decides-and, Decides-or, Decides-not, Decides-eqb, Decides-like}
 use Rattle.room.specs.Seen.{Room, Point, Inside, Holds, Within, cut}
 use Rattle.room.proofs.Belows.{decides_any}
 use Rattle.room.proofs.Cuts.{cut_below, cut_past, decides_int_le, decides_holds}
-use Rattle.overlap.specs.Clash.{is_zero, exempt, clash_box, rivals, overlap_shut, Exempt, Clashes, Blocked, Ranges, ShutsBlocked}
+use Rattle.overlap.specs.Clash.{is_zero, exempt, clash_box, rivals, overlap_shut, Exempt, Ranges, ShutsBlocked}
 use Rattle.overlap.specs.declared.Overlap.{Overlap}
 use Rattle.overlap.specs.declared.Overlap.TheVariants.{Strict, Nonstrict}
 

@@ -1,10 +1,9 @@
 -- Boxes that do not overlap: the constraints diffn_k and diffn_nonstrict_k of MiniZinc, over all pairs of boxes and all
 -- dimensions. A box is a piece at its point, and its sizes are the lengths of the piece.
-use Rattle.std.specs.Prelude.{◌≡◌, ℕ, ◌<◌, ◌⊎◌, ℤ, pos, ◌+ℤ◌, ◌≤ℤ◌}
+use Rattle.std.specs.Prelude.{◌≡◌, ℕ, ◌<◌, ◌⊎◌, pos, ◌+ℤ◌, ◌≤ℤ◌}
 use Rattle.room.specs.Seen.{Room}
 use Rattle.rule.specs.Kept.{Placement, Keeps, Same}
 use Rattle.overlap.specs.Clash.{overlap_shut}
-use Rattle.overlap.specs.declared.Overlap.{Overlap}
 use Rattle.overlap.specs.declared.Overlap.TheVariants.{Strict, Nonstrict}
 
 -- every pair of boxes is parted in some dimension

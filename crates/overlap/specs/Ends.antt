@@ -1,5 +1,5 @@
 -- A pair of pieces by their records: the asked piece by its lengths, the other by its record.
-use Rattle.std.specs.Prelude.{◌≡◌, ℕ, ◌<◌, ◌⊎◌, List, ℤ, pos, ◌+ℤ◌, ◌-ℤ◌, neg_ℤ, ◌≤ℤ◌}
+use Rattle.std.specs.Prelude.{◌≡◌, ℕ, ◌<◌, ◌⊎◌, List, ℤ, pos, ◌+ℤ◌, ◌-ℤ◌, ◌≤ℤ◌}
 use Rattle.room.specs.Fit.{AxisLimits}
 use Rattle.room.specs.Limits.{max_length}
 use Rattle.room.specs.Seen.{Box, on_axis}

@@ -1,5 +1,5 @@
 -- Records within the limits: those that passed the check, and what a rule sees of them.
-use Rattle.std.proofs.Common.{◌≡◌, ℕ, zero, suc, ◌<◌, Bool, true, ◌&&◌, List, [], ◌∷◌, length, arith}
+use Rattle.std.proofs.Common.{◌≡◌, ℕ, zero, suc, ◌<◌, true, List, [], ◌∷◌, length, arith}
 use Rattle.std.proofs.lemmas.Int.{ints}
 use Rattle.std.proofs.lemmas.Bool.{and_parts}
 use Rattle.room.specs.Fit.{AxisLimits, Board, Limits, axis_fits, first_extent, piece_fits, present_inside, records_fit}

@@ -1,8 +1,6 @@
 -- What was read of a sheet, laid down and held as rules, is what the sheet means.
-use Rattle.std.proofs.Common.{◌≡◌, ℕ, ◌<◌, ◌≤◌, Bool, true, false, cond, ◌&&◌, eqb, ltb, ◌≢◌, List, [], ◌∷◌, ◌++◌, length, pos, ◌≤ℤ◌, Some, None, Ok, Err, Result, sym, refl, ap, ◌∙◌, arith}
-use lib.Signed.{le_z}
-use Rattle.std.specs.List.{AllByRecursion as All}
-use Rattle.std.proofs.lemmas.Int.{ints}
+use Rattle.std.proofs.Common.{◌≡◌, ℕ, ◌≤◌, true, false, ltb, List, [], ◌∷◌, ◌++◌, length, pos, None, Ok, Err, Result, sym, refl, ap, ◌∙◌, arith}
+use Rattle.std.specs.List.{AllByRecursion}
 use Rattle.std.proofs.lemmas.Bool.{and_from, cond-false, cond-true, le-ltb, lt-ltb, ne_eqb, not_from_false}
 use Rattle.room.specs.Limits.{max_axes, max_length, max_pieces}
 use Rattle.room.specs.declared.orders.Order.{Order}
@@ -28,7 +26,7 @@ use Rattle.orders.specs.Entries.{entries_of}
 use Rattle.orders.specs.Named.{all_refusal, naming_of, orders_legal}
 use Rattle.orders.specs.Ordered.{order_legal, orders_shut}
 use Rattle.orders.specs.declared.held.OrderRule.{OrderRule}
-use Rattle.sheet.specs.Fits.{Fits, OrderFits}
+use Rattle.sheet.specs.Fits.{OrderFits}
 use Rattle.sheet.specs.Lay.{answered, laid_all, left_in_records}
 use Rattle.sheet.specs.Meaning.{meaning}
 use Rattle.sheet.specs.Plan.{Plan, contents_of}
@@ -51,7 +49,7 @@ legal axes pieces o few_axes few_pieces fits =
     (and_from _ _ ((decides_int_le o.gap (pos max_length)).1 fits.gap_to)
     (not_from_false _ (ne_eqb o.before o.after fits.apart))))))
 
-all_legal : (axes pieces : ℕ) (os : List Order) → axes ≤ max_axes → pieces ≤ max_pieces → All (OrderFits axes pieces) os → orders_legal os ≡ true
+all_legal : (axes pieces : ℕ) (os : List Order) → axes ≤ max_axes → pieces ≤ max_pieces → AllByRecursion (OrderFits axes pieces) os → orders_legal os ≡ true
 all_legal axes pieces [] few_axes few_pieces fits = refl
 all_legal axes pieces (o ∷ os) few_axes few_pieces (fit, fits) = and_from _ _ (legal axes pieces o few_axes few_pieces fit) (all_legal axes pieces os few_axes few_pieces fits)
 

@@ -1,5 +1,5 @@
 -- What is printed for a sheet.
-use Rattle.std.specs.Prelude.{ℕ, List, [], ◌∷◌, ◌++◌, length, replicate, ℤ, pos, Ok, Err, Result}
+use Rattle.std.specs.Prelude.{ℕ, List, [], ◌∷◌, ◌++◌, length, replicate, pos, Ok, Err, Result}
 use Rattle.room.specs.Limits.{max_axes, max_pieces}
 use Rattle.room.specs.Told.{refusal_line}
 use Rattle.room.specs.declared.piece.Ends.{Ends}

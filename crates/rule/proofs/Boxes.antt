@@ -1,8 +1,8 @@
 -- Boxes with the same ends, and boxes that are given under a test.
-use Rattle.std.proofs.Common.{◌≡◌, ℕ, ◌<◌, ◌≤◌, Bool, true, false, cond, ℤ, Some, None, Option, sym, refl, ◌∙◌, arith}
+use Rattle.std.proofs.Common.{◌≡◌, ℕ, ◌≤◌, Bool, true, false, cond, ℤ, Some, None, sym, refl, ◌∙◌, arith}
 use Rattle.std.proofs.lemmas.Int.{ints}
 use Rattle.room.specs.Seen.{Room, Point, Box, Holds, Meets}
-use Rattle.rule.specs.Means.{Covers, EndsFit, SameBox, Shuts}
+use Rattle.rule.specs.Means.{Covers, EndsFit, SameBox}
 
 pub same_back : {k : ℕ} {b c : Box} → SameBox k b c → SameBox k c b
 same_back same = record { from_same = λ d h. sym (same.from_same d h); to_same = λ d h. sym (same.to_same d h) }

@@ -1,8 +1,8 @@
 -- Two rules held together: what they list, one after the other, and which placements keep them.
-use Rattle.std.proofs.Common.{◌≡◌, ℕ, ◌+◌, ◌-◌, ◌<◌, ◌≤◌, min, Bool, true, false, ◌||◌, ◌⊎◌, List, ◌++◌, length, Some, None, Option, unwrap_or, sym, refl, ap, ◌∙◌, subst, inl, inr, ⊎_elim, arith}
+use Rattle.std.proofs.Common.{◌≡◌, ℕ, ◌+◌, ◌-◌, ◌<◌, ◌≤◌, min, Bool, ◌||◌, List, ◌++◌, length, Some, None, Option, unwrap_or, sym, refl, ap, ◌∙◌, subst, ⊎_elim, arith}
 use Rattle.std.proofs.lemmas.List.{get_or_append_left, get_or-append_right, length-append}
-use Rattle.std.proofs.lemmas.Bool.{cases_lt, cond-true, cond-false, le-leb, lt-leb, leb-true, leb-false, or_cases, or_from, or_left, or_parts, or_right}
-use Rattle.room.specs.Seen.{Room, Point, Box, Within, Holds}
+use Rattle.std.proofs.lemmas.Bool.{cases_lt, cond-true, cond-false, le-leb, lt-leb, or_cases, or_from, or_left, or_parts, or_right}
+use Rattle.room.specs.Seen.{Room, Point, Box, Holds}
 use Rattle.rule.specs.Kept.{BothKept}
 use Rattle.rule.specs.Means.{Shuts, Lists, ListsBox, box_at, no_box, counted, max_listed}
 

@@ -1,5 +1,5 @@
 -- What is known once the checks of a question have passed.
-use Rattle.std.proofs.Common.{◌≡◌, ℕ, ◌<◌, ◌≤◌, Bool, true, List, length, take, ℤ, Decides, sym, refl, ap, ◌∙◌, subst, arith}
+use Rattle.std.proofs.Common.{◌≡◌, ℕ, ◌<◌, ◌≤◌, Bool, true, List, length, take, ℤ, Decides, refl, ap, ◌∙◌, subst, arith}
 use Rattle.std.proofs.lemmas.List.{get_or-take, length-take, length-take-le}
 use Rattle.std.proofs.lemmas.Int.{ints}
 use Rattle.std.proofs.lemmas.Bool.{cond-true, le-leb, lt-ltb}
@@ -9,7 +9,7 @@ use Rattle.room.specs.Seen.{Point, Box, Holds, Within, at, bounds_box, holds, no
 use Rattle.room.specs.declared.piece.Piece.{Piece}
 use Rattle.room.proofs.Cuts.{cut_below, cut_past, decides_holds}
 use Rattle.room.proofs.Fitting.{records_limits}
-use Rattle.rule.specs.Refused.{Ready, board_range, board_refusal}
+use Rattle.rule.specs.Refused.{Ready, board_range}
 
 module _ (suited : ℕ → ℕ → Bool) (k n : ℕ) (records : List Piece) (p : ℕ) (range : board_range k n ≡ true) (lent : n ≤ length records) (fits : records_fit k (take n records) ≡ true) (suits : suited k n ≡ true) (known : p < n) where
   board_is : Board k (take n records)

@@ -1,5 +1,5 @@
 -- Boxes that come from numbered sources, each of which gives one or none.
-use Rattle.std.specs.Prelude.{◌≡◌, ℕ, zero, suc, ◌<◌, Bool, true, List, [], ◌∷◌, ◌++◌, Some, None, Option, MatchOption}
+use Rattle.std.specs.Prelude.{◌≡◌, ℕ, zero, suc, ◌<◌, Bool, true, List, [], ◌++◌, Some, None, Option, MatchOption}
 use Rattle.std.specs.Option.{option_to_list}
 use Rattle.room.specs.Seen.{Room, Point, Box, Within, Holds, box_of}
 use Rattle.room.specs.declared.region.Region.{Region}

@@ -1,5 +1,5 @@
 -- What the answers of a rule mean. Which points of a piece are shut is given as a test of points.
-use Rattle.std.specs.Prelude.{◌≡◌, ℕ, ◌<◌, ◌≤◌, Bool, true, false, cond, List, length, ℤ, pos, neg_ℤ, ◌≤ℤ◌, Some, None, Option, MatchOption, nat_le, slice_index_or}
+use Rattle.std.specs.Prelude.{◌≡◌, ℕ, ◌<◌, Bool, true, false, cond, List, length, pos, neg_ℤ, ◌≤ℤ◌, Some, None, Option, MatchOption, nat_le, slice_index_or}
 use Rattle.room.specs.Fit.{Board}
 use Rattle.room.specs.Seen.{Room, Point, Box, Within, Holds, box_of}
 use Rattle.room.specs.declared.piece.Piece.{Piece}

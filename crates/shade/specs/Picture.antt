@@ -1,6 +1,6 @@
 -- What is written of a board under a rule: for each piece its number and ranges, and a picture of its origins, or the boxes
 -- that the rule lists where the picture would be too large.
-use Rattle.std.specs.Prelude.{ℕ, ◌+◌, ◌*◌, min, Bool, true, false, cond, List, [], ◌∷◌, ◌++◌, map, length, ℤ, pos, ◌+ℤ◌, ◌-ℤ◌, codes, decimal, nat_le, unsigned_abs}
+use Rattle.std.specs.Prelude.{ℕ, ◌+◌, ◌*◌, min, Bool, true, false, cond, List, [], ◌∷◌, ◌++◌, length, ℤ, pos, ◌+ℤ◌, ◌-ℤ◌, codes, decimal, nat_le, unsigned_abs}
 use Rattle.std.specs.List.{range_with_len, flat_map}
 use Rattle.std.specs.Fmt.{signed_decimal}
 use Rattle.room.specs.Seen.{Room, Point, Box, point_of}

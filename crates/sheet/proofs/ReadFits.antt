@@ -1,6 +1,6 @@
 -- A plan that is read is within the limits.
 use Rattle.std.proofs.Common.{◌≡◌, ℕ, ◌+◌, ltb, List, [], ◌∷◌, length, drop, Ok, Err, Result, sym, subst, arith}
-use Rattle.std.specs.List.{AllByRecursion as All}
+use Rattle.std.specs.List.{AllByRecursion}
 use Rattle.std.proofs.lemmas.Bool.{cond_both}
 use Rattle.room.specs.declared.orders.Order.{Order}
 use Rattle.room.specs.declared.piece.Extent.{Extent}
@@ -30,9 +30,9 @@ plan_of c pieces orders rows = record { axes = c.axes; mode = c.mode; pieces = p
 module _ (c : Contents) (within : Within c) where
   -- parts that are as many as the contents announce, each within its limits, make a plan within the limits
   parts_fit : (pieces : List (List Extent)) (orders : List Order) (rows : List (List Cell))
-      → (length pieces ≡ c.pieces) × All (PieceFits c.axes) pieces
-      → (length orders ≡ c.orders) × All (OrderFits c.axes c.pieces) orders
-      → (length rows ≡ c.rows) × All RowFits rows
+      → (length pieces ≡ c.pieces) × AllByRecursion (PieceFits c.axes) pieces
+      → (length orders ≡ c.orders) × AllByRecursion (OrderFits c.axes c.pieces) orders
+      → (length rows ≡ c.rows) × AllByRecursion RowFits rows
       → Fits (plan_of c pieces orders rows)
   parts_fit pieces orders rows ps os rs =
       let pieces_are = ps.0 in
@@ -46,15 +46,15 @@ module _ (c : Contents) (within : Within c) where
         orders_to = omega arith;
         rows_to = omega arith;
         pieces_fit = ps.1;
-        orders_fit = subst (λ n. All (OrderFits c.axes n) orders) (sym pieces_are) os.1;
+        orders_fit = subst (λ n. AllByRecursion (OrderFits c.axes n) orders) (sym pieces_are) os.1;
         rows_fit = rs.1;
       }
 
   -- the same, of the plan that is read where no line is left over
   ending_fits : (number : ℕ) (ls : List Line) (p : Plan) (pieces : List (List Extent)) (orders : List Order) (rows : List (List Cell))
-      → (length pieces ≡ c.pieces) × All (PieceFits c.axes) pieces
-      → (length orders ≡ c.orders) × All (OrderFits c.axes c.pieces) orders
-      → (length rows ≡ c.rows) × All RowFits rows
+      → (length pieces ≡ c.pieces) × AllByRecursion (PieceFits c.axes) pieces
+      → (length orders ≡ c.orders) × AllByRecursion (OrderFits c.axes c.pieces) orders
+      → (length rows ≡ c.rows) × AllByRecursion RowFits rows
       → no_more number ls (plan_of c pieces orders rows) ≡ Ok p → Fits p
   ending_fits number ls p pieces orders rows ps os rs e =
       subst Fits (no_more_ok number ls (plan_of c pieces orders rows) p e) (parts_fit pieces orders rows ps os rs)

@@ -2,7 +2,7 @@
 use Rattle.std.proofs.Common.{◌≡◌, ℕ, zero, suc, ◌+◌, ◌*◌, ◌<◌, ◌≤◌, true, eqb, List, [], ◌∷◌, length, get_or, drop, ℤ, pos, ◌≤ℤ◌, Some, None, Ok, Err, codes, Option, Result, sym, refl, ap, ◌∙◌, subst, arith}
 use lib.Signed.{le_z}
 use Rattle.std.specs.Option.{option_map}
-use Rattle.std.specs.List.{AllByRecursion as All}
+use Rattle.std.specs.List.{AllByRecursion}
 use Rattle.std.proofs.lemmas.List.FromFn.{length-map-range_with_len}
 use Rattle.std.proofs.lemmas.Int.{ints}
 use Rattle.std.proofs.lemmas.Bool.{and_parts, leb-true, ltb-true, eqb-false, not-true}
@@ -53,21 +53,21 @@ line_says_ok says number ls x e =
 
 -- lines that are read are as many as were announced, and what holds of all that such a line can say holds of each
 pub each_says_all : {A : Type 0} (P : A → Type 0) (says : List ℕ → Result A Fault) → ((body : List ℕ) (x : A) → says body ≡ Ok x → P x)
-    → (number n : ℕ) (ls : List Line) (xs : List A) → each_says says number n ls ≡ Ok xs → (length xs ≡ n) × All P xs
+    → (number n : ℕ) (ls : List Line) (xs : List A) → each_says says number n ls ≡ Ok xs → (length xs ≡ n) × AllByRecursion P xs
 each_says_all P says sound number zero ls xs e =
     let v : [] ≡ xs = cc in
-    subst (λ l. (length l ≡ 0) × All P l) v (refl, tt)
+    subst (λ l. (length l ≡ 0) × AllByRecursion P l) v (refl, tt)
 each_says_all P says sound number (suc n) ls xs e =
     let first = and_then_ok (line_says says number ls) (λ x. map_ok (λ ys. x ∷ ys) (each_says says (number + 1) n (drop 1 ls))) xs e in
     let rest = map_ok_ok (λ ys. first.0 ∷ ys) (each_says says (number + 1) n (drop 1 ls)) xs first.2 in
     let said = line_says_ok says number ls first.0 first.1 in
     let more = each_says_all P says sound (number + 1) n (drop 1 ls) rest.0 rest.1 in
-    subst (λ l. (length l ≡ suc n) × All P l) rest.2 (ap (λ k. suc k) more.0, (sound said.0 first.0 said.1, more.1))
+    subst (λ l. (length l ≡ suc n) × AllByRecursion P l) rest.2 (ap (λ k. suc k) more.0, (sound said.0 first.0 said.1, more.1))
 
 -- PIECE
 
 -- extents that pass the test fit, each of them
-extents_all : (es : List Extent) → extents_fit es ≡ true → All (λ e. extent_fits e ≡ true) es
+extents_all : (es : List Extent) → extents_fit es ≡ true → AllByRecursion (λ e. extent_fits e ≡ true) es
 extents_all [] h = tt
 extents_all (e ∷ es) h = let p = and_parts (extent_fits e) (extents_fit es) h in (p.0, extents_all es p.1)
 
@@ -79,7 +79,7 @@ piece_fits axes body es e =
     let m = mapped_some (extents axes) numbers_read j.0 j.1 in
     record {
       each_axis = ap length (sym j.3) ∙ ap length (sym m.2) ∙ length-map-range_with_len (extent_at axes m.0) 0 axes;
-      each_fits = subst (λ l. All (λ x. extent_fits x ≡ true) l) j.3 (extents_all j.0 j.2);
+      each_fits = subst (λ l. AllByRecursion (λ x. extent_fits x ≡ true) l) j.3 (extents_all j.0 j.2);
     }
 
 -- BEFORE

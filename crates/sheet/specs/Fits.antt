@@ -1,6 +1,6 @@
 -- Plans within the limits of a sheet.
 use Rattle.std.specs.Prelude.{◌≡◌, ℕ, ◌<◌, ◌≤◌, true, ◌≢◌, List, length, pos, ◌≤ℤ◌}
-use Rattle.std.specs.List.{AllByRecursion as All}
+use Rattle.std.specs.List.{AllByRecursion}
 use Rattle.room.specs.Limits.{max_axes, max_pieces, max_orders, max_rows, max_cells, max_length, extent_fits}
 use Rattle.room.specs.declared.orders.Order.{Order}
 use Rattle.room.specs.declared.piece.Extent.{Extent}
@@ -10,7 +10,7 @@ use Rattle.sheet.specs.Plan.{Plan}
 -- a piece has an extent within the limits on each axis
 pub record PieceFits (axes : ℕ) (es : List Extent) : Type 0 where
   pub each_axis : length es ≡ axes
-  pub each_fits : All (λ e. extent_fits e ≡ true) es
+  pub each_fits : AllByRecursion (λ e. extent_fits e ≡ true) es
 
 -- an order is between two pieces of the room on one of its axes
 pub record OrderFits (axes pieces : ℕ) (o : Order) : Type 0 where
@@ -33,6 +33,6 @@ pub record Fits (p : Plan) : Type 0 where
   pub pieces_to : length p.pieces ≤ max_pieces
   pub orders_to : length p.orders ≤ max_orders
   pub rows_to : length p.rows ≤ max_rows
-  pub pieces_fit : All (PieceFits p.axes) p.pieces
-  pub orders_fit : All (OrderFits p.axes (length p.pieces)) p.orders
-  pub rows_fit : All RowFits p.rows
+  pub pieces_fit : AllByRecursion (PieceFits p.axes) p.pieces
+  pub orders_fit : AllByRecursion (OrderFits p.axes (length p.pieces)) p.orders
+  pub rows_fit : AllByRecursion RowFits p.rows

@@ -1,5 +1,5 @@
 -- Which placements keep the rules of a sheet.
-use Rattle.std.proofs.Common.{◌≡◌, ℕ, ◌<◌, true, ◌&&◌, List}
+use Rattle.std.proofs.Common.{ℕ, true, ◌&&◌, List}
 use Rattle.std.proofs.lemmas.Bool.{and_parts}
 use Rattle.room.specs.Seen.{Room}
 use Rattle.room.specs.declared.orders.Order.{Order}
@@ -14,7 +14,7 @@ use Rattle.orders.specs.Ordered.{orders_shut, orders_suit}
 use Rattle.orders.specs.Shutting.{orders_kept}
 use Rattle.walls.specs.Walled.{walls_shut, walls_suit}
 use Rattle.walls.specs.Walls.{kept}
-use Rattle.sheet_rule.specs.Together.{Apart, SheetKept, overlap_of, sheet_shut}
+use Rattle.sheet_rule.specs.Together.{Apart, SheetKept, overlap_of}
 
 apart : (mode : Mode) (k : ℕ) (r : Room) (q : Placement) → Same (Keeps (overlap_shut (overlap_of mode)) k r q) (Apart mode k r q)
 apart Strict k r q = strict_kept k r q

@@ -1,6 +1,6 @@
 -- Worked sheets: what some texts mean.
 use Rattle.std.specs.Prelude.{◌≡◌, ℕ, List, [], ◌∷◌, ◌++◌, pos, Ok, Err, codes, Result}
-use Rattle.std.specs.List.{AllByRecursion as All}
+use Rattle.std.specs.List.{AllByRecursion}
 use Rattle.room.specs.declared.piece.Extent.{Extent}
 use Rattle.room.specs.declared.refusal.Refusal.{Refusal}
 use Rattle.room.specs.declared.refusal.Refusal.TheVariants.{LineUnreadable, LineMissing, LineLeftOver, LineMalformed, LineOutOfRange}
@@ -53,4 +53,4 @@ worked_sheets =
     ∷ [])))))))
 
 abbrev pub WorkedSheets : Type 0
-WorkedSheets = All (λ w. meaning w.text ≡ w.says) worked_sheets
+WorkedSheets = AllByRecursion (λ w. meaning w.text ≡ w.says) worked_sheets

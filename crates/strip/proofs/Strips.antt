@@ -1,18 +1,18 @@
 -- The strip as facts, and that its one box is right.
-use Rattle.std.proofs.Common.{◌≡◌, ℕ, ◌<◌, ◌≤◌, Bool, true, false, cond, ◌&&◌, eqb, ltb, List, length, set, ℤ, pos, ◌≤ℤ◌, Some, None, Decides, sym, refl, ap, ◌∙◌, subst, ⊎_elim, arith}
+use Rattle.std.proofs.Common.{◌≡◌, ℕ, ◌<◌, cond, eqb, List, length, set, ℤ, pos, ◌≤ℤ◌, Some, None, Decides, sym, refl, ap, ◌∙◌, subst, ⊎_elim, arith}
 use Rattle.std.specs.Int.{int_max, int_min}
 use Rattle.std.proofs.lemmas.List.{get_or-set_other, get_or-set_same}
 use Rattle.std.proofs.lemmas.Int.{clamps, ints}
-use Rattle.std.proofs.lemmas.Bool.{both_ways, cases_eq, cond-false, cond-true, eq-eqb, lt-ltb, ltb-true, ne_eqb}
+use Rattle.std.proofs.lemmas.Bool.{both_ways, cases_eq, cond-false, cond-true, eq-eqb, ltb-true, ne_eqb}
 use Rattle.std.proofs.lemmas.Bool.Decides.{Decides-and, Decides-like, Decides-ltb}
 use Rattle.room.specs.Fit.{Board}
-use Rattle.room.specs.Seen.{Room, Point, Box, Holds, Meets, Within, at, meets, on_axis, room_of}
+use Rattle.room.specs.Seen.{Room, Point, Box, Holds, Meets, Within, at, on_axis, room_of}
 use Rattle.room.specs.declared.piece.Piece.{Piece}
 use Rattle.room.proofs.Belows.{false_from}
 use Rattle.room.proofs.Cuts.{common_point, cut_below, decides_int_le, decides_meets, meets_from}
 use Rattle.room.proofs.Fitting.{limits_seen}
 use Rattle.rule.specs.Gathered.{Sound}
-use Rattle.rule.specs.Means.{Covers, EndsFit, ListsBox, SameBox, Shuts}
+use Rattle.rule.specs.Means.{EndsFit, ListsBox, SameBox, Shuts}
 use Rattle.rule.proofs.Boxes.{given_some}
 use Rattle.strip.specs.Meaning.{StripKept, cut_box, record_box, strip_shut, strip_source}
 use Rattle.strip.specs.declared.Strip.{Strip}

@@ -1,6 +1,6 @@
 -- A text taken apart at its first line feed or space.
 use Rattle.std.proofs.Common.{◌≡◌, ℕ, ◌+◌, ◌-◌, ◌<◌, ◌≤◌, true, false, List, [], ◌∷◌, ◌++◌, length, get_or, take, drop, sym, refl, ap, ◌∙◌, arith}
-use Rattle.std.specs.List.{AllByRecursion as All}
+use Rattle.std.specs.List.{AllByRecursion}
 use Rattle.std.proofs.ByRecursion.{All-from_get_or}
 use Rattle.std.proofs.lemmas.List.{drop_more, take_rest, take-append-drop, length-take-le, get_or-take}
 use Rattle.std.proofs.lemmas.Bool.{cond-false, ne_eqb}
@@ -9,7 +9,7 @@ use Rattle.text.specs.Items.{items, widened}
 
 -- no byte of the text is c
 abbrev pub Lacks : ℕ → List ℕ → Type 0
-Lacks c text = All (λ b. b ≡ c → ⊥) text
+Lacks c text = AllByRecursion (λ b. b ≡ c → ⊥) text
 
 pub lines_ended : (front rest : List ℕ) → Lacks 10 front → lines (front ++ (10 ∷ rest)) ≡ line front true ∷ lines rest
 lines_ended [] rest h = refl

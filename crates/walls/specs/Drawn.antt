@@ -1,5 +1,5 @@
 -- The boxes of the origins at which a piece covers walls: of a run of cells in one column, and of each cell of a map.
-use Rattle.std.specs.Prelude.{ℕ, ◌*◌, ◌/◌, ◌%◌, min, Bool, cond, ◌&&◌, List, [], ◌∷◌, length, ℤ, pos, ◌+ℤ◌, ◌-ℤ◌, neg_ℤ, ◌≤ℤ◌, Some, None, Option}
+use Rattle.std.specs.Prelude.{ℕ, ◌*◌, ◌/◌, ◌%◌, min, cond, ◌&&◌, List, [], ◌∷◌, length, ℤ, pos, ◌+ℤ◌, ◌-ℤ◌, neg_ℤ, ◌≤ℤ◌, Some, None, Option}
 use Rattle.room.specs.Limits.{max_cells, max_end, max_length, max_rows}
 use Rattle.room.specs.Seen.{Room, Box, meets, on_axis}
 use Rattle.room.specs.declared.walls.Cell.{Cell}

@@ -1,7 +1,7 @@
 -- Worked rooms, on one axis. A kind of question about a room is a case of Worked, and what is to hold of it a line of
 -- Comes-out; the rooms are one list.
-use Rattle.std.specs.Prelude.{◌≡◌, ℕ, ◌+◌, ◌-◌, Bool, List, [], ◌∷◌, ℤ, pos, filter}
-use Rattle.std.specs.List.{range_with_len, AllByRecursion as All}
+use Rattle.std.specs.Prelude.{◌≡◌, ℕ, ◌+◌, ◌-◌, Bool, List, [], ◌∷◌, pos, filter}
+use Rattle.std.specs.List.{range_with_len, AllByRecursion}
 use Rattle.room.specs.Seen.{Room, Point, point_of, room_of}
 use Rattle.room.specs.declared.orders.Order.{Order}
 use Rattle.room.specs.declared.piece.Ends.{Ends}
@@ -75,4 +75,4 @@ worked_rooms =
     ∷ []))))))
 
 abbrev pub WorkedRooms : Type 0
-WorkedRooms = All ComesOut worked_rooms
+WorkedRooms = AllByRecursion ComesOut worked_rooms

@@ -1,6 +1,4 @@
-use Rattle.room.specs.Seen.{room_of}
 use Rattle.rule.proofs.Gatherings.{sound_lists}
-use Rattle.overlap.specs.Clash.{clash_source, overlap_shut}
 use Rattle.overlap.proofs.Paired.{sound}
 use Rattle.overlap.proofs.OverlapRule.count.Goals as goal
 

@@ -1,9 +1,8 @@
 use Rattle.std.proofs.Common.{refl, arith, below_more}
 use Rattle.std.proofs.lemmas.Bool.{both_ways}
-use Rattle.room.specs.Seen.{box_of, point_of, room_of}
+use Rattle.room.specs.Seen.{point_of, room_of}
 use Rattle.room.proofs.Belows.{false_from}
 use Rattle.rule.proofs.Boxes.{same_back, same_covers, same_holds}
-use Rattle.overlap.specs.Clash.{clash_box, overlap_shut}
 use Rattle.overlap.specs.Clashing.{decides_shut}
 use Rattle.overlap.proofs.Paired.{box_seen, ends_fit, exempt_seen, rival_shuts, rivals_seen}
 use Rattle.overlap.proofs.OverlapRule.cover.Goals as goal

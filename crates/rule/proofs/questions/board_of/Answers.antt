@@ -1,4 +1,4 @@
-use Rattle.std.proofs.Common.{◌≡◌, ◌-◌, List, take, sym, ap, ◌∙◌, subst, arith}
+use Rattle.std.proofs.Common.{◌≡◌, ◌-◌, take, sym, ap, ◌∙◌, subst, arith}
 use Rattle.room.specs.Fit.{records_fit}
 use Rattle.rule.specs.Refused.{Ready}
 use Rattle.rule.proofs.Ready.{ready}

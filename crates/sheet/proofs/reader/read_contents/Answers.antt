@@ -1,4 +1,4 @@
-use Rattle.std.proofs.Common.{◌≡◌, ℕ, List, IfOk, Ok, Err, Result}
+use Rattle.std.proofs.Common.{List, IfOk, Ok, Err, Result}
 use Rattle.room.specs.declared.refusal.Refusal.{Refusal}
 use Rattle.text.specs.Lines.{Line, lines}
 use Rattle.forms.specs.Forms.{says_contents}

@@ -1,4 +1,4 @@
-use Rattle.std.proofs.Common.{refl, w32, SFits}
+use Rattle.std.proofs.Common.{w32, SFits}
 use Rattle.std.proofs.lemmas.Int.{to_z-of_z}
 use Rattle.strip.proofs.Strips.{strip_kept}
 use Rattle.strip.proofs.Strip.new.Goals as goal

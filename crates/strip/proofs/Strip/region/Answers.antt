@@ -1,4 +1,4 @@
-use Rattle.std.proofs.Common.{◌<◌, length, ℤ, ap, arith}
+use Rattle.std.proofs.Common.{ap, arith}
 use Rattle.std.specs.Int.{int_max, int_min}
 use Rattle.std.proofs.lemmas.Int.{clamps, ints}
 use Rattle.room.specs.Seen.{on_axis}
