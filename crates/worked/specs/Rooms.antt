@@ -1,5 +1,5 @@
 -- Worked rooms, on one axis. A kind of question about a room is a case of Worked, and what is to hold of it a line of
--- Comes-out; the rooms are one list.
+-- ComesOut; the rooms are one list.
 use Rattle.std.specs.Prelude.{◌≡◌, ℕ, ◌+◌, ◌-◌, Bool, List, [], ◌∷◌, pos, filter}
 use Rattle.std.specs.List.{range_with_len, AllByRecursion}
 use Rattle.room.specs.Seen.{Room, Point, point_of, room_of}
