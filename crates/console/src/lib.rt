@@ -72,4 +72,52 @@ mod tests {
         assert_eq!(rt; buffer, *b"wall #.#");
         Ok(())
     }
+
+    // Gives one byte a read, and fails where it has given as many as `cut`, if that is a number.
+    #[derive(Drop)]
+    struct Sips<'a> {
+        text: &'a [u8],
+        at: usize,
+        cut: Option<usize>,
+    }
+
+    impl<'a> Read for Sips<'a> {
+        fn read(&mut self, buf: &mut [u8]) -> io::Result<usize> {
+            if self.cut == Some(self.at) {
+                return Err(io::Error::from(io::ErrorKind::BrokenPipe));
+            }
+            match (self.text.get(self.at), buf.first_mut()) {
+                (Some(byte), Some(place)) => {
+                    *place = *byte;
+                    self.at = self.at.saturating_add(1);
+                    Ok(1)
+                }
+                _ => Ok(0),
+            }
+        }
+    }
+
+    fn sipped(text: &[u8], cut: Option<usize>) -> Sips<'_> {
+        Sips { text, at: 0, cut }
+    }
+
+    // reads go on until the input ends or the buffer is full, however little each gives
+    #[test]
+    fn fills_by_sips(rt: HostRuntime) -> Result<(), Fail> {
+        let mut buffer = [0u8; 8];
+        assert_eq!(rt; fill(&mut sipped(b"wall", None), &mut buffer)?, 4);
+        assert_eq!(rt; buffer, *b"wall\0\0\0\0");
+        assert_eq!(rt; fill(&mut sipped(b"wall #.#.", None), &mut buffer)?, 8);
+        assert_eq!(rt; buffer, *b"wall #.#");
+        Ok(())
+    }
+
+    // a read that fails in mid-stream is an error, and not a shorter text
+    #[test]
+    fn tells_a_failed_read(rt: HostRuntime) {
+        let mut buffer = [0u8; 8];
+        assert!(rt; fill(&mut sipped(b"wall #.#", Some(0)), &mut buffer).is_err());
+        assert!(rt; fill(&mut sipped(b"wall #.#", Some(3)), &mut buffer).is_err());
+        assert!(rt; fill(&mut sipped(b"wall #.#", Some(8)), &mut buffer).is_ok());
+    }
 }
