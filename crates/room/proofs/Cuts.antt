@@ -1,12 +1,14 @@
 -- What is cut to the axes of a board, and points and boxes on them.
-use Rattle.std.proofs.Common.{◌≡◌, ℕ, zero, suc, ◌<◌, ◌≤◌, List, ℤ, pos, ◌≤ℤ◌, Decides, arith}
+use Rattle.std.proofs.Common.{◌≡◌, ℕ, zero, suc, ◌<◌, ◌≤◌, List, length, ℤ, pos, ◌≤ℤ◌, Decides, refl, arith}
 use lib.Signed.{le_z}
 use Rattle.std.specs.Int.{int_max}
 use Rattle.std.proofs.lemmas.Int.{ints, clamps}
 use Rattle.std.proofs.lemmas.Bool.{cond-true, cond-false, lt-ltb, le-ltb}
 use Rattle.std.proofs.lemmas.Bool.Decides.{Decides-and, Decides-like}
-use Rattle.room.specs.Seen.{Room, Point, Box, Within, Holds, Meets, cut, holds, meets, on_axis, point_of}
-use Rattle.room.proofs.Belows.{decides_all}
+use Rattle.room.specs.Seen.{Room, Point, Box, Within, Holds, Meets, box_of, cut, highs, holds, lows, meets, no_span, on_axis, point_of}
+use Rattle.room.specs.Spans.{span_holds, span_meets, spans_hold, spans_meet}
+use Rattle.room.specs.declared.region.Region.{Region}
+use Rattle.room.proofs.Belows.{decides_all, decides_zipped}
 
 pub cut_below : (k : ℕ) (f : ℕ → ℤ) (d : ℕ) → d < k → cut k f d ≡ f d
 unfolding cut
@@ -33,6 +35,22 @@ pub decides_meets : (k : ℕ) (b : Box) (low high : ℕ → ℤ) → Decides (me
 decides_meets k b low high =
     decides_all _ (λ d. (b.from d ≤ℤ b.to d) × (b.from d ≤ℤ high d) × (low d ≤ℤ b.to d))
     (λ d. Decides-like _ (λ (a, (c, e)). (a, c, e)) (λ (a, c, e). (a, (c, e))) (Decides-and _ _ (decides_int_le (b.from d) (b.to d)) (Decides-and _ _ (decides_int_le (b.from d) (high d)) (decides_int_le (low d) (b.to d))))) k
+
+-- the ranges of a box, put to the origins of a point one by one
+pub decides_spans_hold : (k : ℕ) (region : Region) (origins : List ℤ) → length region.spans ≡ length origins → Decides (spans_hold k region.spans origins) (Holds k (box_of region) (point_of k origins))
+decides_spans_hold k region origins same =
+    Decides-like _
+    (λ every d h. let e = cut_below k (on_axis origins) d h in let is = every d h in (grind (arith, ints), grind (arith, ints)))
+    (λ held d h. let e = cut_below k (on_axis origins) d h in let (above, under) = held d h in grind (arith, ints))
+    (decides_zipped span_holds no_span (pos 0) refl k region.spans origins same)
+
+-- and to the ranges of bounds
+pub decides_spans_meet : (k : ℕ) (region bounds : Region) → length region.spans ≡ length bounds.spans → Decides (spans_meet k region.spans bounds.spans) (Meets k (box_of region) (lows bounds) (highs bounds))
+decides_spans_meet k region bounds same =
+    Decides-like _
+    (λ every d h. let is = every d h in (grind (arith, ints), grind (arith, ints), grind (arith, ints)))
+    (λ met d h. let (order, from, to) = met d h in grind (arith, ints))
+    (decides_zipped span_meets no_span no_span refl k region.spans bounds.spans same)
 
 -- where a box meets the bounds of a piece, a point within them lies in it
 pub common_point : (k : ℕ) (b : Box) (r : Room) (p : ℕ) → ((d : ℕ) → d < k → r.low p d ≤ℤ r.high p d) → Meets k b (r.low p) (r.high p) → (x : Point) × Within k r p x × Holds k b x

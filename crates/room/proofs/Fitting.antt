@@ -4,7 +4,7 @@ use Rattle.std.proofs.lemmas.Int.{ints}
 use Rattle.std.proofs.lemmas.Bool.{and_parts}
 use Rattle.room.specs.Fit.{AxisLimits, Board, Limits, axis_fits, first_extent, piece_fits, present_inside, records_fit}
 use Rattle.room.specs.Limits.{extent_fits}
-use Rattle.room.specs.Seen.{at, on_axis, room_of}
+use Rattle.room.specs.Seen.{at, highs, lows, on_axis, room_of}
 use Rattle.room.specs.declared.piece.Piece.{Piece}
 use Rattle.room.proofs.Belows.{decides_all, passes}
 use Rattle.room.proofs.Cuts.{cut_below}
@@ -33,6 +33,6 @@ pub limits_seen : (k : ℕ) (records : List Piece) (p : ℕ) → Board k records
 limits_seen k records p board known d h =
     let limits = board.limits p known d h in
     let size = cut_below k (on_axis (at records p).lengths) d h in
-    let low = cut_below k (on_axis (at records p).present.lower) d h in
-    let high = cut_below k (on_axis (at records p).present.upper) d h in
+    let low = cut_below k (lows (at records p).present) d h in
+    let high = cut_below k (highs (at records p).present) d h in
     record { size_from = omega (arith, ints); size_to = omega (arith, ints); from = omega (arith, ints); order = omega (arith, ints); to = omega (arith, ints) }

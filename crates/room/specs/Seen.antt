@@ -2,9 +2,9 @@
 -- past the board's axes and pieces.
 use Rattle.std.specs.Prelude.{◌≡◌, ℕ, ◌<◌, ◌≤◌, Bool, cond, ◌&&◌, List, [], length, ℤ, pos, ◌≤ℤ◌, int_le, nat_lt, slice_index_or}
 use Rattle.room.specs.Below.{all_below}
-use Rattle.room.specs.declared.piece.Ends.{Ends}
 use Rattle.room.specs.declared.piece.Piece.{Piece}
 use Rattle.room.specs.declared.region.Region.{Region}
+use Rattle.room.specs.declared.span.Span.{Span}
 
 -- how many pieces there are, and of each piece, on each axis, its length and its present ends
 pub record Room : Type 0 where
@@ -30,11 +30,24 @@ on_axis xs d = slice_index_or xs d (pos 0)
 unfoldable pub cut : ℕ → (ℕ → ℤ) → ℕ → ℤ
 cut k f d = cond (nat_lt d k) (f d) (pos 0)
 
-abbrev no_ends : Ends
-no_ends = record { lower = []; upper = [] }
+abbrev pub no_span : Span
+no_span = record { lower = pos 0; upper = pos 0 }
+
+-- the range of a box at an axis, and its ends there
+abbrev pub span_at : Region → ℕ → Span
+span_at region d = slice_index_or region.spans d no_span
+
+abbrev pub lows : Region → ℕ → ℤ
+lows region d = (span_at region d).lower
+
+abbrev pub highs : Region → ℕ → ℤ
+highs region d = (span_at region d).upper
+
+abbrev no_bounds : Region
+no_bounds = record { spans = [] }
 
 abbrev pub no_piece : Piece
-no_piece = record { lengths = []; first = no_ends; present = no_ends }
+no_piece = record { lengths = []; first = no_bounds; present = no_bounds }
 
 -- the record of a piece
 abbrev pub at : List Piece → ℕ → Piece
@@ -45,19 +58,19 @@ abbrev pub room_of : ℕ → List Piece → Room
 room_of k records = record {
   count = length records;
   size = λ p. cut k (on_axis (at records p).lengths);
-  low = λ p. cut k (on_axis (at records p).present.lower);
-  high = λ p. cut k (on_axis (at records p).present.upper);
+  low = λ p. cut k (lows (at records p).present);
+  high = λ p. cut k (highs (at records p).present);
 }
 
 abbrev pub point_of : ℕ → List ℤ → Point
 point_of k origins = cut k (on_axis origins)
 
 abbrev pub box_of : Region → Box
-box_of region = record { from = on_axis region.lower; to = on_axis region.upper }
+box_of region = record { from = lows region; to = highs region }
 
 -- the origins within the present ends of a record
 abbrev pub bounds_box : Piece → Box
-bounds_box p = record { from = on_axis p.present.lower; to = on_axis p.present.upper }
+bounds_box p = box_of p.present
 
 -- x is a point of k axes within the bounds of piece p
 pub record Within (k : ℕ) (r : Room) (p : ℕ) (x : Point) : Type 0 where

@@ -1,6 +1,6 @@
 //! A list in memory of a fixed size, for what a room holds: no allocator is asked, so nothing runs out.
 
-ghost use Rattle.std.specs.Prelude.{◌≡◌, ◌≤◌, [], ◌∷◌, ◌++◌, length, if◌then◌else◌, nat_lt};
+ghost use Rattle.std.specs.Prelude.{◌≡◌, ◌≤◌, [], ◌∷◌, ◌++◌, length, if◌then◌else◌, nat_lt, is_ok, IfErr};
 ghost use Rattle.room.specs.Listed.{listed};
 
 /// A list with room for N items.
@@ -26,12 +26,7 @@ impl<T: Copy, const N: usize> ArrayVec<T, N> {
         ensures items { result.now ≡ listed self.now }
         ensures bound { length result.now ≤ N }
     {
-        let slots = &self.slots[..];
-        if self.len < N {
-            &slots[0..self.len]
-        } else {
-            slots
-        }
+        self.slots.get(..self.len).unwrap_or(&self.slots)
     }
 
     /// How many items there are.
@@ -41,17 +36,18 @@ impl<T: Copy, const N: usize> ArrayVec<T, N> {
         self.as_slice().len()
     }
 
-    /// Puts an item at the end; false, and no change, where the list is full.
-    pub fn push(&mut self, item: T) -> bool
-        ensures fits { result ≡ nat_lt (length (listed self.old)) N }
-        ensures items { listed self.new ≡ (if result then listed self.old ++ item ∷ [] else listed self.old) }
+    /// Puts an item at the end; where the list is full, nothing changes and the item comes back.
+    pub fn push(&mut self, item: T) -> Result<(), T>
+        ensures fits { is_ok result ≡ nat_lt (length (listed self.old)) N }
+        ensures items { listed self.new ≡ (if is_ok result then listed self.old ++ item ∷ [] else listed self.old) }
+        ensures back { IfErr result (λ x. x ≡ item) }
     {
         let at = self.len();
         if at >= N {
-            return false;
+            return Err(item);
         }
         self.slots[at] = item;
         self.len = at + 1;
-        true
+        Ok(())
     }
 }

@@ -9,4 +9,5 @@ pub mod piece;
 pub mod point;
 pub mod refusal;
 pub mod region;
+pub mod span;
 pub mod walls;

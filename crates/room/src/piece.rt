@@ -1,38 +1,32 @@
 //! The record of a piece, and what is said of a piece on one axis.
 
 ghost use Rattle.std.specs.Prelude.{◌≡◌, ◌<◌, ◌≤◌};
-ghost use Rattle.room.specs.Fit.{first_extent, present_inside, axis_fits, piece_fits, records_fit};
+ghost use Rattle.room.specs.Fit.{first_extent, axis_fits, piece_fits, records_fit};
 ghost use Rattle.room.specs.Limits.{extent_fits};
 ghost use Rattle.room.specs.Seen.{bounds_box, box_of};
 
 use crate::limits::{MAX_AXES, MAX_END, MAX_LENGTH};
 use crate::region::Region;
+use crate::span::Span;
 
-/// A lower and an upper end for each axis; an axis that the board does not use holds anything.
-#[derive(Clone, Copy)]
-pub struct Ends {
-    pub lower: [i32; MAX_AXES],
-    pub upper: [i32; MAX_AXES],
-}
-
-/// A piece's record. It lies in lent memory, so its numbers may be anything until they are looked at.
+/// A piece's record. It lies in lent memory, so its numbers may be anything until they are looked at. The lengths stand
+/// beside the boxes, as a box is compared, cut and copied whole.
 #[derive(Clone, Copy)]
 pub struct Piece {
     pub lengths: [i32; MAX_AXES],
-    pub first: Ends,
-    pub present: Ends,
+    pub first: Region,
+    pub present: Region,
 }
 
-const NO_ENDS: Ends = Ends {
-    lower: [0; MAX_AXES],
-    upper: [0; MAX_AXES],
+const NO_BOUNDS: Region = Region {
+    spans: [Span { lower: 0, upper: 0 }; MAX_AXES],
 };
 
 /// Fills records that are not in use.
 pub const NO_PIECE: Piece = Piece {
     lengths: [0; MAX_AXES],
-    first: NO_ENDS,
-    present: NO_ENDS,
+    first: NO_BOUNDS,
+    present: NO_BOUNDS,
 };
 
 /// What is said of a piece on one axis: its length, and the range of its origin.
@@ -69,10 +63,11 @@ impl Piece {
         requires { axis < 3 }
         ensures { result ≡ first_extent self.now axis }
     {
+        let Span { lower, upper } = self.first.spans[axis];
         Extent {
             length: self.lengths[axis],
-            lower: self.first.lower[axis],
-            upper: self.first.upper[axis],
+            lower,
+            upper,
         }
     }
 
@@ -80,24 +75,14 @@ impl Piece {
     pub fn bounds(&self) -> Region
         ensures { box_of result ≡ bounds_box self.now }
     {
-        let Ends { lower, upper } = self.present;
-        Region { lower, upper }
-    }
-
-    fn is_inside_first(&self, axis: usize) -> bool
-        requires { axis < 3 }
-        ensures { result ≡ present_inside self.now axis }
-    {
-        self.first.lower[axis] <= self.present.lower[axis]
-            && self.present.lower[axis] <= self.present.upper[axis]
-            && self.present.upper[axis] <= self.first.upper[axis]
+        self.present
     }
 
     fn axis_fits(&self, axis: usize) -> bool
         requires { axis < 3 }
         ensures { result ≡ axis_fits self.now axis }
     {
-        self.extent(axis).fits() && self.is_inside_first(axis)
+        self.extent(axis).fits() && self.present.spans[axis].is_inside(&self.first.spans[axis])
     }
 
     /// Whether the record is within the limits on its first axes, and its present ends lie inside its first ends there.
@@ -105,12 +90,7 @@ impl Piece {
         requires { axes ≤ 3 }
         ensures { result ≡ piece_fits axes self.now }
     {
-        for axis in 0..axes {
-            if !self.axis_fits(axis) {
-                return false;
-            }
-        }
-        true
+        (0..axes).all(|axis| self.axis_fits(axis))
     }
 }
 
@@ -119,10 +99,5 @@ pub fn records_fit(axes: usize, records: &[Piece]) -> bool
     requires { axes ≤ 3 }
     ensures { result ≡ records_fit axes records.now }
 {
-    for piece in records {
-        if !piece.fits(axes) {
-            return false;
-        }
-    }
-    true
+    records.iter().all(|piece| piece.fits(axes))
 }

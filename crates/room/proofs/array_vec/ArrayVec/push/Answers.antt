@@ -8,5 +8,6 @@ returns g c =
     let in_use : c.len-at.result ≡ c.args.self.now.len = omega (arith, length-take c.args.self.now.len c.args.self.now.slots, c.len-at.ensures) in
     record {
       fits = search rules;
+      back = tt;
       items = take_more_set c.args.self.now.slots c.len-at.result c.args.item (omega arith) ∙ ap (λ n. take n c.args.self.now.slots ++ (c.args.item ∷ [])) in_use;
     }
