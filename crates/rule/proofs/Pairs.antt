@@ -1,5 +1,6 @@
 -- Two rules held together: what they list, one after the other, and which placements keep them.
-use Rattle.std.proofs.Common.{◌≡◌, ℕ, ◌+◌, ◌-◌, ◌<◌, ◌≤◌, min, Bool, ◌||◌, List, ◌++◌, length, Some, None, Option, unwrap_or, sym, refl, ap, ◌∙◌, subst, ⊎_elim, arith}
+use Rattle.std.proofs.Common.{◌≡◌, ℕ, ◌+◌, ◌-◌, ◌<◌, ◌≤◌, min, nat_le, cond, Bool, true, false, ◌||◌, List, ◌++◌, length, Some, None, Option, unwrap_or, sym, refl, ap, ◌∙◌, subst, ⊎_elim, arith}
+use Rattle.std.specs.Bool.{then_some}
 use Rattle.std.proofs.lemmas.List.{get_or_append_left, get_or-append_right, length-append}
 use Rattle.std.proofs.lemmas.Bool.{cases_lt, cond-true, cond-false, le-leb, lt-leb, or_cases, or_from, or_left, or_parts, or_right}
 use Rattle.room.specs.Seen.{Room, Point, Box, Holds}
@@ -33,6 +34,10 @@ counted_or n first o is e =
     (λ h s. is ∙ ap (λ t. unwrap_or t max_listed) s ∙ omega arith)
     (λ h s. is ∙ ap (λ t. unwrap_or t max_listed) s ∙ omega arith)
 
+pub some_then : (b : Bool) (n : ℕ) → then_some b n ≡ cond b (Some n) None
+some_then true n = refl
+some_then false n = refl
+
 -- the count of two lists from the counts of each
 module _ (xs ys : List Box) where
   pub too_many_left : None ≡ counted (length xs) → None ≡ counted (length (xs ++ ys))
@@ -48,11 +53,8 @@ module _ (xs ys : List Box) where
     sum_is : a + b ≡ length (xs ++ ys)
     sum_is = let l = counted_is (length xs) a one in let m = counted_is (length ys) b two in omega (arith, length-append xs ys)
 
-    pub sum_counted : a + b ≤ max_listed → Some (a + b) ≡ counted (length (xs ++ ys))
-    sum_counted few = ap Some sum_is ∙ sym (counted_some (length (xs ++ ys)) (omega (arith, sum_is)))
-
-    pub sum_too_many : max_listed < a + b → None ≡ counted (length (xs ++ ys))
-    sum_too_many many = sym (counted_none (length (xs ++ ys)) (omega (arith, sum_is)))
+    pub sum_counted : then_some (nat_le (a + b) max_listed) (a + b) ≡ counted (length (xs ++ ys))
+    sum_counted = some_then (nat_le (a + b) max_listed) (a + b) ∙ ap counted sum_is
 
 pub at_left : (xs ys : List Box) (i : ℕ) → i < length xs → box_at (xs ++ ys) i ≡ box_at xs i
 at_left xs ys i h = get_or_append_left xs ys no_box i h

@@ -4,3 +4,4 @@ pub mod Means
 pub mod Pair
 pub mod Questions
 pub mod Refused
+pub mod Subjects

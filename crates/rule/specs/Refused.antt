@@ -1,5 +1,5 @@
 -- Why a question is refused: checks in order, the first that fails decides.
-use Rattle.std.specs.Prelude.{◌≡◌, ℕ, Bool, cond, ◌&&◌, List, length, take, ℤ, Some, None, Option, nat_le, nat_lt}
+use Rattle.std.specs.Prelude.{ℕ, Bool, cond, ◌&&◌, List, length, take, ℤ, Some, None, Option, nat_le, nat_lt}
 use Rattle.room.specs.Fit.{records_fit}
 use Rattle.room.specs.Limits.{max_axes, max_pieces}
 use Rattle.room.specs.Seen.{at, bounds_box, holds, point_of}
@@ -7,7 +7,7 @@ use Rattle.room.specs.declared.piece.Piece.{Piece}
 use Rattle.room.specs.declared.refusal.Layer.TheVariants.{Rule}
 use Rattle.room.specs.declared.refusal.Refusal.{Refusal}
 use Rattle.room.specs.declared.refusal.Refusal.TheVariants.{OutOfRange, MemoryShort, RecordUnfit, NotListed, Unsuited}
-use Rattle.rule.specs.Means.{Asked, max_listed}
+use Rattle.rule.specs.Means.{max_listed}
 
 -- a check passes and the next ones decide, or this refusal is told
 abbrev pub unless : Bool → Refusal → Option Refusal → Option Refusal
@@ -45,9 +45,3 @@ listed_refusal suited k n records p boxes number =
     board_refusal suited k n records p
     (unless (nat_lt number max_listed) (OutOfRange Rule)
     (unless (nat_lt number boxes) NotListed None))
-
--- a question may be put to the rule of these first records of the board, and its own checks decide
-pub record Ready (suited : ℕ → ℕ → Bool) (k n : ℕ) (records : List Piece) (p : ℕ) (board : List Piece) : Type 0 where
-  pub first : board ≡ take n records
-  pub asked : Asked suited k board p
-  pub passes : (next : Option Refusal) → board_refusal suited k n records p next ≡ next

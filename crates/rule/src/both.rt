@@ -6,7 +6,7 @@ ghost use Rattle.rule.specs.Pair.{one_of, two_of};
 ghost use Rattle.std.proofs.Common.{rules};
 
 use crate::interface::{MAX_LISTED, Rule};
-use room::piece::Piece;
+use crate::subject::Subject;
 use room::point::Point;
 use room::region::Region;
 
@@ -41,27 +41,27 @@ impl<P: Rule, Q: Rule> Rule for Both<P, Q> {
         self.one.suits(axes, pieces) && self.two.suits(axes, pieces)
     }
 
-    fn cover(&self, axes: usize, records: &[Piece], piece: usize, point: &Point) -> Option<Region> {
-        match self.one.cover(axes, records, piece, point) {
+    fn cover(&self, subject: &Subject<'_>, point: &Point) -> Option<Region> {
+        match self.one.cover(subject, point) {
             Some(region) => Some(region),
-            None => self.two.cover(axes, records, piece, point),
+            None => self.two.cover(subject, point),
         }
     }
 
-    fn count(&self, axes: usize, records: &[Piece], piece: usize) -> Option<usize> {
-        let one = self.one.count(axes, records, piece);
-        let two = self.two.count(axes, records, piece);
+    fn count(&self, subject: &Subject<'_>) -> Option<usize> {
+        let one = self.one.count(subject);
+        let two = self.two.count(subject);
         let all = one? + two?;
         let countable = all <= MAX_LISTED;
-        if countable { Some(all) } else { None }
+        countable.then_some(all)
     }
 
-    fn listed(&self, axes: usize, records: &[Piece], piece: usize, number: usize) -> Region {
-        let first = self.one.count(axes, records, piece).unwrap_or(MAX_LISTED);
+    fn listed(&self, subject: &Subject<'_>, number: usize) -> Region {
+        let first = self.one.count(subject).unwrap_or(MAX_LISTED);
         if number < first {
-            self.one.listed(axes, records, piece, number)
+            self.one.listed(subject, number)
         } else {
-            self.two.listed(axes, records, piece, number - first)
+            self.two.listed(subject, number - first)
         }
     }
 }

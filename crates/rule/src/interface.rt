@@ -1,10 +1,11 @@
 //! The interface of a rule.
 
 ghost use Rattle.std.specs.Prelude.{◌≡◌, ℕ, ◌<◌, Bool, true, List, length};
-ghost use Rattle.room.specs.Seen.{Room, Point as PointT, Box as BoxT, Within, Inside, room_of, point_of, box_of};
-ghost use Rattle.rule.specs.Means.{Asked, Covered, Lists, SameBox, box_at, counted, max_listed};
+ghost use Rattle.room.specs.Seen.{Room, Point as PointT, Box as BoxT, Within, Inside};
+ghost use Rattle.rule.specs.Means.{counted, max_listed};
+ghost use Rattle.rule.specs.Subjects.{CoveredThere, ListsThere, SameThere, Suits, WithinBounds, boxes_there};
 
-use room::piece::Piece;
+use crate::subject::Subject;
 use room::point::Point;
 use room::region::Region;
 
@@ -28,23 +29,23 @@ pub trait Rule {
         ensures { result ≡ suited self.now axes pieces };
 
     /// Nothing where the point of the piece is not shut, otherwise a box that holds it and in which all is shut.
-    fn cover(&self, axes: usize, records: &[Piece], piece: usize, point: &Point) -> Option<Region>
-        requires asked { Asked (suited self.now) axes records.now piece }
-        requires within { Within axes (room_of axes records.now) piece (point_of axes point.now.origins) }
-        ensures { Covered axes (room_of axes records.now) piece (shut self.now axes (room_of axes records.now) piece) (point_of axes point.now.origins) result };
+    fn cover(&self, subject: &Subject<'_>, point: &Point) -> Option<Region>
+        requires suits { Suits (suited self.now) subject.now }
+        requires within { WithinBounds subject.now point.now.origins }
+        ensures { CoveredThere (shut self.now) subject.now point.now.origins result };
 
     /// How many boxes are listed for the piece; nothing where they are too many to count.
-    fn count(&self, axes: usize, records: &[Piece], piece: usize) -> Option<usize>
-        requires asked { Asked (suited self.now) axes records.now piece }
-        ensures number { result ≡ counted (length (boxes self.now axes (room_of axes records.now) piece)) }
-        ensures lists { Lists axes (room_of axes records.now) piece (shut self.now axes (room_of axes records.now) piece) (boxes self.now axes (room_of axes records.now) piece) };
+    fn count(&self, subject: &Subject<'_>) -> Option<usize>
+        requires suits { Suits (suited self.now) subject.now }
+        ensures number { result ≡ counted (length (boxes_there (boxes self.now) subject.now)) }
+        ensures lists { ListsThere (shut self.now) (boxes self.now) subject.now };
 
     /// The box at a number of the list, from 0.
-    fn listed(&self, axes: usize, records: &[Piece], piece: usize, number: usize) -> Region
-        requires asked { Asked (suited self.now) axes records.now piece }
-        requires there { number < length (boxes self.now axes (room_of axes records.now) piece) }
+    fn listed(&self, subject: &Subject<'_>, number: usize) -> Region
+        requires suits { Suits (suited self.now) subject.now }
+        requires there { number < length (boxes_there (boxes self.now) subject.now) }
         requires small { number < max_listed }
-        ensures { SameBox axes (box_of result) (box_at (boxes self.now axes (room_of axes records.now) piece) number) };
+        ensures { SameThere (boxes self.now) subject.now number result };
 
     /// What is shut stays shut where bounds get tighter.
     ghost narrows: { (s : Self) (k : ℕ) (b c : Room) (p : ℕ) (x : PointT) → Inside k c b → p < b.count → Within k c p x → shut s k b p x ≡ true → shut s k c p x ≡ true };

@@ -6,3 +6,4 @@ pub mod both;
 pub mod interface;
 pub mod listing;
 pub mod questions;
+pub mod subject;

@@ -1,7 +1,8 @@
 use Rattle.std.proofs.Common.{◌≡◌, ◌<◌, length, sym, ap, ◌∙◌, subst, arith}
 use Rattle.std.proofs.lemmas.List.{length_push}
-use Rattle.room.specs.Seen.{room_of, box_of}
+use Rattle.room.specs.Seen.{box_of}
 use Rattle.rule.specs.Gathered.{gathered}
+use Rattle.rule.specs.Subjects.{room_seen}
 use Rattle.rule.specs.Means.{SameBox, box_at}
 use Rattle.rule.proofs.Gatherings.{gathered_some, gathered_none, found_at}
 use Rattle.rule.proofs.listing.listed_box.Goals as goal
@@ -9,9 +10,9 @@ use Rattle.rule.proofs.listing.listed_box.Goals.{in-Some+else-reached, in_defaul
 
 pub returns-then-reached : goal.returns-then-reached
 returns-then-reached g c =
-    let k = c.args.axes in
-    let source = g.S.Sources.given c.args.rule.now k (room_of k c.args.records.now) c.args.piece in
-    let all = g.S.Sources.many c.args.rule.now k (room_of k c.args.records.now) c.args.piece in
+    let k = c.args.subject.now.axes in
+    let source = g.S.Sources.given c.args.rule.now k (room_seen c.args.subject.now) c.args.subject.now.piece in
+    let all = g.S.Sources.many c.args.rule.now k (room_seen c.args.subject.now) c.args.subject.now.piece in
     let n = c.loop-source.source in
     let (b, e, same) = c.in-Some.ensures in
     let below : n < all = omega arith in
@@ -20,8 +21,8 @@ returns-then-reached g c =
 
 pub loop-source-preserved : goal.loop-source-preserved
 loop-source-preserved g c =
-    let k = c.args.axes in
-    let source = g.S.Sources.given c.args.rule.now k (room_of k c.args.records.now) c.args.piece in
+    let k = c.args.subject.now.axes in
+    let source = g.S.Sources.given c.args.rule.now k (room_seen c.args.subject.now) c.args.subject.now.piece in
     let n = c.loop-source.source in
     elim c.match-source_box.branch [
       | in-Some+else-reached w ↦

@@ -1,5 +1,5 @@
 use Rattle.std.proofs.Common.{sym, ◌∙◌, arith}
-use Rattle.rule.proofs.Pairs.{lists_both, sum_counted, sum_small, sum_too_many, too_many_left, too_many_right}
+use Rattle.rule.proofs.Pairs.{lists_both, sum_counted, sum_small, too_many_left, too_many_right}
 use Rattle.rule.proofs.both.BothRule.count.Goals as goal
 
 pub returns-in_err-one : goal.returns-in_err-one
@@ -19,14 +19,8 @@ overflow_add-all g c =
     let small = sum_small _ _ _ _ (sym c.in_ok-one.was ∙ c.count-one.ensures.number) (sym c.in_ok-all.was ∙ c.count-two.ensures.number) in
     omega arith
 
-pub returns-then-countable : goal.returns-then-countable
-returns-then-countable g c = record {
-  number = sum_counted _ _ _ _ (sym c.in_ok-one.was ∙ c.count-one.ensures.number) (sym c.in_ok-all.was ∙ c.count-two.ensures.number) (omega arith);
-  lists = lists_both _ _ _ _ _ _ _ c.count-one.ensures.lists c.count-two.ensures.lists;
-}
-
-pub returns-else-countable : goal.returns-else-countable
-returns-else-countable g c = record {
-  number = sum_too_many _ _ _ _ (sym c.in_ok-one.was ∙ c.count-one.ensures.number) (sym c.in_ok-all.was ∙ c.count-two.ensures.number) (omega arith);
+pub returns : goal.returns
+returns g c = record {
+  number = c.then_some.ensures ∙ sum_counted _ _ _ _ (sym c.in_ok-one.was ∙ c.count-one.ensures.number) (sym c.in_ok-all.was ∙ c.count-two.ensures.number);
   lists = lists_both _ _ _ _ _ _ _ c.count-one.ensures.lists c.count-two.ensures.lists;
 }
