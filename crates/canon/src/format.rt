@@ -4,12 +4,13 @@ ghost use Rattle.std.specs.Prelude.{◌≡◌, IfOk, Ok, string_bytes};
 ghost use Rattle.sheet.specs.Fits.{Fits};
 ghost use Rattle.sheet.specs.Held.{plan_of};
 ghost use Rattle.sheet.specs.Meaning.{meaning};
+ghost use Rattle.answer.specs.Answers.{Gives, printed};
 ghost use Rattle.canon.specs.Canonical.{canonical};
-ghost use Rattle.canon.specs.Formatted.{formatted, Gives, reply as reply_to};
+ghost use Rattle.canon.specs.Formatted.{formatted};
 ghost use Rattle.canon.specs.Kept.{KeepsLimits};
 
 use crate::writer::{Canonical, put_each};
-use room::refusal::Refusal;
+use answer::{Unanswered, told};
 use sheet::reader::Sheet;
 use std::alloc::{AllocError, Global};
 use std::fmt;
@@ -28,37 +29,20 @@ pub fn write_sheet(heap: Global, sheet: &Sheet) -> Result<String, fmt::Error>
     Ok(out)
 }
 
-/// Why a text was not formatted.
-#[derive(Clone, Copy)]
-pub enum Unformatted {
-    Refused(Refusal),
-    NoMemory,
-}
-
 /// The canonical text of the sheet that a text writes.
-pub fn format_sheet(heap: Global, text: &[u8]) -> Result<String, Unformatted>
+pub fn format_sheet(heap: Global, text: &[u8]) -> Result<String, Unanswered>
     ensures gives { Gives (formatted text.now) result }
     ensures back { IfOk result (λ t. meaning (string_bytes t) ≡ meaning text.now) }
     ensures again { IfOk result (λ t. formatted (string_bytes t) ≡ Ok (string_bytes t)) }
     ensures limits { IfOk result (λ t. KeepsLimits (string_bytes t)) }
 {
-    let sheet = match Sheet::read(text) {
-        Ok(sheet) => sheet,
-        Err(refusal) => return Err(Unformatted::Refused(refusal)),
-    };
-    match write_sheet(heap, &sheet) {
-        Ok(canonical) => Ok(canonical),
-        Err(_) => Err(Unformatted::NoMemory),
-    }
+    let sheet = Sheet::read(text)?;
+    Ok(write_sheet(heap, &sheet)?)
 }
 
 /// What a program prints for a text: the formatted sheet, or one line that says why it is refused.
 pub fn reply(heap: Global, text: &[u8]) -> Result<String, AllocError>
-    ensures { IfOk result (λ t. string_bytes t ≡ reply_to (formatted text.now)) }
+    ensures { IfOk result (λ t. string_bytes t ≡ printed (formatted text.now)) }
 {
-    match format_sheet(heap, text) {
-        Ok(canonical) => Ok(canonical),
-        Err(Unformatted::Refused(refusal)) => format!(in heap; "{refusal}\n"),
-        Err(Unformatted::NoMemory) => Err(AllocError),
-    }
+    told(heap, format_sheet(heap, text))
 }

@@ -2,7 +2,9 @@
 
 #![tactic(auto)]
 
-ghost use Rattle.std.specs.Prelude.{◌≤◌, length, IfOk};
+ghost use Rattle.std.specs.Prelude.{◌≤◌, ◌<◌, length, take, IfOk, Ok};
+ghost use Rattle.std.specs.Io.KnownBytes.{Consumes, IsAtEnd};
+ghost use Rattle.console.specs.Reading.{CutAt};
 
 use sheet::reader::MAX_SHEET;
 use std::alloc::{AllocError, Global};
@@ -12,22 +14,14 @@ use std::io::Read;
 /// One byte more than a sheet may have, so that a longer input is told from the longest sheet.
 const ROOM: usize = MAX_SHEET + 1;
 
-/// A program that answers a sheet's text with a text.
-pub trait Replies {
-    /// What is printed for the text; it fails only for want of memory.
-    fn reply(&self, heap: Global, text: &[u8]) -> Result<String, AllocError>;
-}
-
-/// Reads until the input ends or the buffer is full, and tells how many bytes were read.
+/// Reads until the input ends or the buffer is full, and tells how many bytes were read to its start.
 pub fn fill<I: Read>(input: &mut I, buffer: &mut [u8]) -> io::Result<usize>
-    ensures { IfOk result (λ n. n ≤ length buffer.new) }
+    ensures bound { IfOk result (λ n. n ≤ length buffer.new) }
+    ensures bytes { IfOk result (λ n. Consumes (I.remaining input.old) (I.remaining input.new) (take n buffer.new)) }
+    ensures end { IfOk result (λ n. n < length buffer.new → IsAtEnd (I.remaining input.new)) }
 {
     let mut filled = 0;
-    // each turn reads a byte at least, so there are at most as many turns as there is room
-    for _ in 0..buffer.len() {
-        if filled >= buffer.len() {
-            break;
-        }
+    while filled < buffer.len() {
         let got = input.read(&mut buffer[filled..])?;
         if got == 0 {
             break;
@@ -37,20 +31,29 @@ pub fn fill<I: Read>(input: &mut I, buffer: &mut [u8]) -> io::Result<usize>
     Ok(filled)
 }
 
-/// What the program prints for an input. What follows the first `ROOM` bytes does not change it.
-pub fn answer<P: Replies, I: Read>(
-    program: &P,
+/// The reply to the bytes of an input. What follows the first `ROOM` of them does not change it.
+pub fn answer<I: Read, F: FnOnce(Global, &[u8]) -> Result<String, AllocError>>(
+    reply: F,
     input: &mut I,
     heap: Global,
-) -> anyhow::Result<String> {
+) -> anyhow::Result<String>
+    requires { F.IsAlwaysCallable reply }
+    ensures { IfOk result (λ text. (given : _) × CutAt ROOM (I.remaining input.old) given.now × F.post reply heap given (Ok text)) }
+{
     let mut buffer = [0u8; ROOM];
     let filled = fill(input, &mut buffer)?;
-    Ok(program.reply(heap, &buffer[0..filled])?)
+    Ok(reply(heap, &buffer[..filled])?)
 }
 
-/// Runs the program on standard input and output.
-pub fn run<P: Replies>(program: &P, rt: &HostRuntime) -> anyhow::Result<()> {
-    let text = answer(program, &mut rt.stdin(), rt.alloc())?;
+/// Prints the reply to standard input on standard output.
+// No `ensures`: of what standard input gives and standard output takes, the library's contracts say nothing.
+pub fn run<F: FnOnce(Global, &[u8]) -> Result<String, AllocError>>(
+    reply: F,
+    rt: &HostRuntime,
+) -> anyhow::Result<()>
+    requires { F.IsAlwaysCallable reply }
+{
+    let text = answer(reply, &mut rt.stdin(), rt.alloc())?;
     rt.print(text.as_str())?;
     Ok(())
 }

@@ -1,7 +1,6 @@
--- What is printed for a sheet.
-use Rattle.std.specs.Prelude.{ℕ, List, [], ◌∷◌, ◌++◌, length, replicate, pos, Ok, Err, Result}
+-- The pictures of a sheet.
+use Rattle.std.specs.Prelude.{ℕ, List, length, replicate, pos, Ok, Err, Result}
 use Rattle.room.specs.Limits.{max_axes, max_pieces}
-use Rattle.room.specs.Told.{refusal_line}
 use Rattle.room.specs.declared.piece.Ends.{Ends}
 use Rattle.room.specs.declared.piece.Piece.{Piece}
 use Rattle.room.specs.declared.refusal.Refusal.{Refusal}
@@ -30,8 +29,3 @@ plan_shaded p =
 abbrev pub sheet_shaded : Result Plan Refusal → Result (List ℕ) Refusal
 sheet_shaded (Err e) = Err e
 sheet_shaded (Ok p) = plan_shaded p
-
--- what is printed: the text, or the line of the refusal
-abbrev pub reply_to : Result (List ℕ) Refusal → List ℕ
-reply_to (Ok text) = text
-reply_to (Err e) = refusal_line e ++ (10 ∷ [])

@@ -5,18 +5,8 @@
 
 mod reply;
 
-use console::{Replies, run};
-use std::alloc::{AllocError, Global};
-
-#[derive(Drop)]
-struct Roomshade {}
-
-impl Replies for Roomshade {
-    fn reply(&self, heap: Global, text: &[u8]) -> Result<String, AllocError> {
-        reply::reply(heap, text)
-    }
-}
+use console::run;
 
 fn main(rt: HostRuntime) -> anyhow::Result<()> {
-    run(&Roomshade {}, &rt)
+    run(reply::reply, &rt)
 }

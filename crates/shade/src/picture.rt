@@ -3,14 +3,15 @@
 ghost use Rattle.std.specs.Prelude.{◌≡◌, ◌<◌, ◌≤◌, min, [], ◌∷◌, ◌++◌, length, string_bytes, OnOk};
 ghost use Rattle.room.specs.Seen.{on_axis, room_of};
 ghost use Rattle.rule.specs.Means.{Asked, max_listed};
+ghost use Rattle.answer.specs.Answers.{Gives};
 ghost use Rattle.shade.specs.Canvas.{Askable, SpansAt, WithinAt, boxes_at, breadth_at, origin_at, origins_at, picture_at, piece_at, plane_at, plane_heading_at, room_at, row_at, shut_at};
 ghost use Rattle.shade.specs.Picture.{box_text, boxes_text, cells as cells_of, heading_text, letter, ranges_text, shade_text};
-ghost use Rattle.shade.specs.Shaded.{Gives, shaded};
+ghost use Rattle.shade.specs.Shaded.{shaded};
 
+use answer::Unanswered;
 use room::limits::MAX_AXES;
 use room::piece::{Ends, Piece};
 use room::point::Point;
-use room::refusal::Refusal;
 use room::region::Region;
 use rule::interface::{MAX_LISTED, Rule};
 use rule::questions::board_of;
@@ -275,13 +276,6 @@ fn put_pieces<'a, R: Rule>(
     Ok(())
 }
 
-/// Why a board was not shaded.
-#[derive(Clone, Copy)]
-pub enum Unshaded {
-    Refused(Refusal),
-    NoMemory,
-}
-
 /// For each piece of a board its number and ranges, and a picture of its origins, or the boxes that the rule lists where
 /// the picture would be too large. The first records are the pieces.
 pub fn shade<R: Rule>(
@@ -290,16 +284,11 @@ pub fn shade<R: Rule>(
     axes: usize,
     pieces: usize,
     records: &[Piece],
-) -> Result<String, Unshaded>
+) -> Result<String, Unanswered>
     ensures { Gives (shaded (R.suited rule.now) (R.shut rule.now) (R.boxes rule.now) axes pieces records.now) result }
 {
-    let board = match board_of(rule, axes, pieces, records, 0) {
-        Ok(board) => board,
-        Err(refusal) => return Err(Unshaded::Refused(refusal)),
-    };
+    let board = board_of(rule, axes, pieces, records, 0)?;
     let mut out = String::new(heap);
-    match put_pieces(rule, axes, board, &mut out) {
-        Ok(()) => Ok(out),
-        Err(_) => Err(Unshaded::NoMemory),
-    }
+    put_pieces(rule, axes, board, &mut out)?;
+    Ok(out)
 }

@@ -4,20 +4,10 @@
 #![tactic(auto)]
 
 use canon::format::reply;
-use console::{Replies, run};
-use std::alloc::{AllocError, Global};
-
-#[derive(Drop)]
-struct Sheetfmt {}
-
-impl Replies for Sheetfmt {
-    fn reply(&self, heap: Global, text: &[u8]) -> Result<String, AllocError> {
-        reply(heap, text)
-    }
-}
+use console::run;
 
 fn main(rt: HostRuntime) -> anyhow::Result<()> {
-    run(&Sheetfmt {}, &rt)
+    run(reply, &rt)
 }
 
 #[cfg(test)]
@@ -37,7 +27,7 @@ mod tests {
         ] {
             let bytes = vec![in heap; b'x'; size]?;
             let mut input: &[u8] = bytes.as_slice();
-            let text = answer(&Sheetfmt {}, &mut input, heap)?;
+            let text = answer(reply, &mut input, heap)?;
             assert_eq!(rt; text.as_str(), want);
         }
         Ok(())
