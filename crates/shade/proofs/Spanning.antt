@@ -3,7 +3,7 @@ use Rattle.std.proofs.Common.{◌≡◌, ℕ, ◌<◌, ◌≤◌, Bool, List, []
 use Rattle.std.proofs.lemmas.Int.{ints}
 use Rattle.std.proofs.lemmas.Bool.{cases_lt}
 use Rattle.room.specs.Fit.{Board}
-use Rattle.room.specs.Seen.{Point, Room, Within, at, on_axis, point_of, room_of}
+use Rattle.room.specs.Seen.{Point, Room, Within, at, highs, lows, on_axis, point_of, room_of}
 use Rattle.room.specs.declared.piece.Piece.{Piece}
 use Rattle.room.specs.declared.region.Region.{Region}
 use Rattle.room.proofs.Cuts.{by_axis, cut_below, cut_past}
@@ -12,12 +12,12 @@ use Rattle.shade.specs.Canvas.{Spans}
 use Rattle.shade.specs.Picture.{breadth, origin}
 
 module _ (k : ℕ) (records : List Piece) (p d : ℕ) where
-  pub spans_below : (low high : ℤ) → Board k records → p < length records → d < k → low ≡ on_axis (at records p).present.lower d → high ≡ on_axis (at records p).present.upper d → Spans (room_of k records) p d low high
+  pub spans_below : (low high : ℤ) → Board k records → p < length records → d < k → low ≡ lows (at records p).present d → high ≡ highs (at records p).present d → Spans (room_of k records) p d low high
   spans_below low high board known below low_is high_is =
       let limits = board.limits p known d below in
       record {
-        low_is = low_is ∙ sym (cut_below k (on_axis (at records p).present.lower) d below);
-        high_is = high_is ∙ sym (cut_below k (on_axis (at records p).present.upper) d below);
+        low_is = low_is ∙ sym (cut_below k (lows (at records p).present) d below);
+        high_is = high_is ∙ sym (cut_below k (highs (at records p).present) d below);
         from = omega (arith, ints);
         order = omega (arith, ints);
         to = omega (arith, ints);
@@ -25,8 +25,8 @@ module _ (k : ℕ) (records : List Piece) (p d : ℕ) where
 
   pub spans_past : k ≤ d → Spans (room_of k records) p d (pos 0) (pos 0)
   spans_past past = record {
-    low_is = sym (cut_past k (on_axis (at records p).present.lower) d past);
-    high_is = sym (cut_past k (on_axis (at records p).present.upper) d past);
+    low_is = sym (cut_past k (lows (at records p).present) d past);
+    high_is = sym (cut_past k (highs (at records p).present) d past);
     from = omega (arith, ints);
     order = omega (arith, ints);
     to = omega (arith, ints);

@@ -2,4 +2,5 @@
 
 #![tactic(auto)]
 
+mod canvas;
 pub mod picture;

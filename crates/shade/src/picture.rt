@@ -1,104 +1,76 @@
 //! Writing a picture of each piece's origins, `#` shut and `.` free.
 
 ghost use Rattle.std.specs.Prelude.{◌≡◌, ◌<◌, ◌≤◌, min, [], ◌∷◌, ◌++◌, length, string_bytes, OnOk};
-ghost use Rattle.room.specs.Seen.{on_axis, room_of};
-ghost use Rattle.rule.specs.Means.{Asked, max_listed};
+ghost use Rattle.room.specs.Seen.{highs, lows};
+ghost use Rattle.rule.specs.Means.{max_listed};
+ghost use Rattle.rule.specs.Subjects.{Suits, room_seen};
 ghost use Rattle.answer.specs.Answers.{Gives};
-ghost use Rattle.shade.specs.Canvas.{Askable, SpansAt, WithinAt, boxes_at, breadth_at, origin_at, origins_at, picture_at, piece_at, plane_at, plane_heading_at, room_at, row_at, shut_at};
+ghost use Rattle.shade.specs.Canvas.{SpansAt, WithinAt, boxes_at, breadth_at, origin_at, origins_at, picture_at, piece_at, plane_at, plane_heading_at, room_at, row_at, shut_at};
 ghost use Rattle.shade.specs.Picture.{box_text, boxes_text, cells as cells_of, heading_text, letter, ranges_text, shade_text};
 ghost use Rattle.shade.specs.Shaded.{shaded};
 
+use crate::canvas::Canvas;
 use answer::Unanswered;
-use room::limits::MAX_AXES;
-use room::piece::{Ends, Piece};
+use room::piece::Piece;
 use room::point::Point;
 use room::region::Region;
+use room::span::Span;
 use rule::interface::{MAX_LISTED, Rule};
-use rule::questions::board_of;
+use rule::questions::Question;
+use rule::subject::Subject;
 use std::alloc::Global;
 use std::fmt;
 
 /// A picture has this many cells at most.
 const MAX_CELLS: usize = 4096;
 
-/// Writes the range on each of the first axes, each after a space.
-fn put_ranges(
-    axes: usize,
-    lower: &[i32; MAX_AXES],
-    upper: &[i32; MAX_AXES],
-    out: &mut String,
-) -> fmt::Result
-    requires { axes ≤ 3 }
-    ensures { OnOk result (string_bytes out.new ≡ string_bytes out.old ++ ranges_text axes (on_axis lower.now) (on_axis upper.now)) }
-{
-    for axis in 0..axes {
-        let (from, to) = (lower[axis], upper[axis]);
-        write!(out, " {from}..{to}")?;
-    }
-    Ok(())
-}
+/// The one origin on an axis that the board does not use.
+const ORIGIN: Span = Span { lower: 0, upper: 0 };
 
 /// Writes the letter of an origin.
 fn put_letter(is_shut: bool, out: &mut String) -> fmt::Result
     ensures { OnOk result (string_bytes out.new ≡ string_bytes out.old ++ letter is_shut ∷ []) }
 {
-    if is_shut {
-        write!(out, "#")?;
-    } else {
-        write!(out, ".")?;
-    }
+    let letter = if is_shut { '#' } else { '.' };
+    write!(out, "{letter}")?;
     Ok(())
-}
-
-/// A piece of a board, and the rule that is asked about it.
-#[derive(Drop)]
-struct Canvas<'a, R> {
-    rule: &'a R,
-    axes: usize,
-    records: &'a [Piece],
-    piece: usize,
 }
 
 impl<'a, R: Rule> Canvas<'a, R> {
     /// The ends on an axis; on one that the board does not use there is the one origin 0.
-    fn ends(&self, axis: usize) -> (i32, i32)
-        requires asked { Askable self.now R.suited }
-        requires axis { axis < 3 }
-        ensures { SpansAt self.now axis result.0 result.1 }
+    fn span(&self, axis: usize) -> Span
+        ensures { SpansAt self.now axis result.lower result.upper }
     {
-        let present = self.records[self.piece].present;
-        if axis < self.axes {
-            (present.lower[axis], present.upper[axis])
+        if axis < self.subject.axes {
+            self.subject.record().present.spans[axis]
         } else {
-            (0, 0)
+            ORIGIN
         }
     }
 
     /// How many origins there are on an axis.
     fn breadth(&self, axis: usize) -> usize
-        requires asked { Askable self.now R.suited }
-        requires axis { axis < 3 }
         ensures is { result ≡ breadth_at self.now axis }
         ensures small { result ≤ 2000001 }
     {
-        let (lower, upper) = self.ends(axis);
+        let Span { lower, upper } = self.span(axis);
         (upper - lower) as usize + 1
     }
 
     /// The origin at a number on an axis.
     fn origin(&self, axis: usize, number: usize) -> i32
-        requires asked { Askable self.now R.suited }
-        requires axis { axis < 3 }
-        requires number { number < breadth_at self.now axis }
+        requires { number < breadth_at self.now axis }
         ensures { result ≡ origin_at self.now axis number }
     {
-        let (lower, _) = self.ends(axis);
+        let Span { lower, .. } = self.span(axis);
         lower + number as i32
     }
 
+    // Each number below is bounded on an axis of its own, and each function takes one more of them: a type for each set of
+    // them would be longer than the clauses.
+
     /// The point at these numbers on axes 2, 1 and 0.
     fn point(&self, plane: usize, row: usize, column: usize) -> Point
-        requires asked { Askable self.now R.suited }
         requires plane { plane < breadth_at self.now 2 }
         requires row { row < breadth_at self.now 1 }
         requires column { column < breadth_at self.now 0 }
@@ -116,21 +88,17 @@ impl<'a, R: Rule> Canvas<'a, R> {
 
     /// Whether the rule shuts that point.
     fn is_shut(&self, plane: usize, row: usize, column: usize) -> bool
-        requires asked { Askable self.now R.suited }
         requires plane { plane < breadth_at self.now 2 }
         requires row { row < breadth_at self.now 1 }
         requires column { column < breadth_at self.now 0 }
         ensures { result ≡ shut_at self.now R.shut plane row column }
     {
         let point = self.point(plane, row, column);
-        self.rule
-            .cover(self.axes, self.records, self.piece, &point)
-            .is_some()
+        self.rule.cover(&self.subject, &point).is_some()
     }
 
     /// Writes the origins along axis 0.
     fn put_row(&self, plane: usize, row: usize, out: &mut String) -> fmt::Result
-        requires asked { Askable self.now R.suited }
         requires plane { plane < breadth_at self.now 2 }
         requires row { row < breadth_at self.now 1 }
         ensures { OnOk result (string_bytes out.new ≡ string_bytes out.old ++ row_at self.now R.shut plane row) }
@@ -144,11 +112,10 @@ impl<'a, R: Rule> Canvas<'a, R> {
 
     /// Writes the origin of a plane; with fewer than three axes there is one plane, and it has no heading.
     fn put_plane_heading(&self, plane: usize, out: &mut String) -> fmt::Result
-        requires asked { Askable self.now R.suited }
-        requires plane { plane < breadth_at self.now 2 }
+        requires { plane < breadth_at self.now 2 }
         ensures { OnOk result (string_bytes out.new ≡ string_bytes out.old ++ plane_heading_at self.now plane) }
     {
-        if self.axes < 3 {
+        if self.subject.axes < 3 {
             return Ok(());
         }
         let origin = self.origin(2, plane);
@@ -158,8 +125,7 @@ impl<'a, R: Rule> Canvas<'a, R> {
 
     /// Writes a plane: its heading, and the rows by axis 1.
     fn put_plane(&self, plane: usize, out: &mut String) -> fmt::Result
-        requires asked { Askable self.now R.suited }
-        requires plane { plane < breadth_at self.now 2 }
+        requires { plane < breadth_at self.now 2 }
         ensures { OnOk result (string_bytes out.new ≡ string_bytes out.old ++ plane_at self.now R.shut plane) }
     {
         self.put_plane_heading(plane, out)?;
@@ -171,7 +137,6 @@ impl<'a, R: Rule> Canvas<'a, R> {
 
     /// Writes the planes by axis 2.
     fn put_picture(&self, out: &mut String) -> fmt::Result
-        requires asked { Askable self.now R.suited }
         ensures { OnOk result (string_bytes out.new ≡ string_bytes out.old ++ picture_at self.now R.shut) }
     {
         for plane in 0..self.breadth(2) {
@@ -180,36 +145,40 @@ impl<'a, R: Rule> Canvas<'a, R> {
         Ok(())
     }
 
+    /// Writes the range on each axis of the board, each after a space.
+    fn put_ranges(&self, region: &Region, out: &mut String) -> fmt::Result
+        ensures { OnOk result (string_bytes out.new ≡ string_bytes out.old ++ ranges_text self.now.subject.axes (lows region.now) (highs region.now)) }
+    {
+        for axis in 0..self.subject.axes {
+            let Span { lower, upper } = region.spans[axis];
+            write!(out, " {lower}..{upper}")?;
+        }
+        Ok(())
+    }
+
     /// Writes the box at a number of the rule's list.
     fn put_box(&self, number: usize, out: &mut String) -> fmt::Result
-        requires asked { Askable self.now R.suited }
         requires there { number < length (boxes_at self.now R.boxes) }
         requires small { number < max_listed }
-        ensures { OnOk result (string_bytes out.new ≡ string_bytes out.old ++ box_text self.now.axes (boxes_at self.now R.boxes) number) }
+        ensures { OnOk result (string_bytes out.new ≡ string_bytes out.old ++ box_text self.now.subject.axes (boxes_at self.now R.boxes) number) }
     {
-        let Region { lower, upper } = self
-            .rule
-            .listed(self.axes, self.records, self.piece, number);
+        let region = self.rule.listed(&self.subject, number);
         write!(out, "box")?;
-        put_ranges(self.axes, &lower, &upper, out)?;
+        self.put_ranges(&region, out)?;
         write!(out, "\n")?;
         Ok(())
     }
 
     /// How many boxes are written: as many as the rule counts.
     fn box_count(&self) -> usize
-        requires asked { Askable self.now R.suited }
         ensures { result ≡ min (length (boxes_at self.now R.boxes)) max_listed }
     {
-        self.rule
-            .count(self.axes, self.records, self.piece)
-            .unwrap_or(MAX_LISTED)
+        self.rule.count(&self.subject).unwrap_or(MAX_LISTED)
     }
 
     /// Writes the boxes that the rule lists.
     fn put_boxes(&self, out: &mut String) -> fmt::Result
-        requires asked { Askable self.now R.suited }
-        ensures { OnOk result (string_bytes out.new ≡ string_bytes out.old ++ boxes_text self.now.axes (boxes_at self.now R.boxes)) }
+        ensures { OnOk result (string_bytes out.new ≡ string_bytes out.old ++ boxes_text self.now.subject.axes (boxes_at self.now R.boxes)) }
     {
         for number in 0..self.box_count() {
             self.put_box(number, out)?;
@@ -219,28 +188,24 @@ impl<'a, R: Rule> Canvas<'a, R> {
 
     /// Writes the number of the piece and its ranges.
     fn put_heading(&self, out: &mut String) -> fmt::Result
-        requires asked { Askable self.now R.suited }
-        ensures { OnOk result (string_bytes out.new ≡ string_bytes out.old ++ heading_text self.now.axes (room_at self.now) self.now.piece) }
+        ensures { OnOk result (string_bytes out.new ≡ string_bytes out.old ++ heading_text self.now.subject.axes (room_at self.now) self.now.subject.piece) }
     {
-        let (axes, piece) = (self.axes, self.piece);
-        let Ends { lower, upper } = self.records[piece].present;
+        let Subject { piece, .. } = self.subject;
         write!(out, "piece {piece}")?;
-        put_ranges(axes, &lower, &upper, out)?;
+        self.put_ranges(&self.subject.record().bounds(), out)?;
         write!(out, "\n")?;
         Ok(())
     }
 
     /// How many cells a picture has.
     fn cells(&self) -> usize
-        requires asked { Askable self.now R.suited }
-        ensures { result ≡ cells_of (room_at self.now) self.now.piece }
+        ensures { result ≡ cells_of (room_at self.now) self.now.subject.piece }
     {
         self.breadth(0) * self.breadth(1) * self.breadth(2)
     }
 
     /// Writes a piece: its heading, and its picture, or its boxes where the picture is too large.
     fn put_piece(&self, out: &mut String) -> fmt::Result
-        requires asked { Askable self.now R.suited }
         ensures { OnOk result (string_bytes out.new ≡ string_bytes out.old ++ piece_at self.now R.shut R.boxes) }
     {
         self.put_heading(out)?;
@@ -254,23 +219,19 @@ impl<'a, R: Rule> Canvas<'a, R> {
     }
 }
 
-/// Writes each piece of a board.
-fn put_pieces<'a, R: Rule>(
-    rule: &'a R,
-    axes: usize,
-    records: &'a [Piece],
-    out: &mut String,
-) -> fmt::Result
-    requires asked { Asked (R.suited rule.now) axes records.now 0 }
-    ensures { OnOk result (string_bytes out.new ≡ string_bytes out.old ++ shade_text (R.shut rule.now) (R.boxes rule.now) axes (room_of axes records.now)) }
+/// Writes each piece of a board, which any piece of it names.
+fn put_pieces<'a, R: Rule>(rule: &'a R, board: &Subject<'a>, out: &mut String) -> fmt::Result
+    requires { Suits (R.suited rule.now) board.now }
+    ensures { OnOk result (string_bytes out.new ≡ string_bytes out.old ++ shade_text (R.shut rule.now) (R.boxes rule.now) board.now.axes (room_seen board.now)) }
 {
+    let Subject { axes, records, .. } = *board;
     for piece in 0..records.len() {
-        let canvas = Canvas {
-            rule,
+        let subject = Subject {
             axes,
             records,
             piece,
         };
+        let canvas = Canvas { rule, subject };
         canvas.put_piece(out)?;
     }
     Ok(())
@@ -287,8 +248,14 @@ pub fn shade<R: Rule>(
 ) -> Result<String, Unanswered>
     ensures { Gives (shaded (R.suited rule.now) (R.shut rule.now) (R.boxes rule.now) axes pieces records.now) result }
 {
-    let board = board_of(rule, axes, pieces, records, 0)?;
+    let question = Question {
+        axes,
+        pieces,
+        records,
+        piece: 0,
+    };
+    let board = question.subject(rule)?;
     let mut out = String::new(heap);
-    put_pieces(rule, axes, board, &mut out)?;
+    put_pieces(rule, &board, &mut out)?;
     Ok(out)
 }
