@@ -10,7 +10,7 @@ use Rattle.room.specs.declared.piece.Piece.{Piece}
 
 -- the length and the first ends of a piece on an axis
 abbrev pub first_extent : Piece → ℕ → Extent
-first_extent p d = record { length = on_axis p.lengths d; lower = lows p.first d; upper = highs p.first d }
+first_extent p d = record { length = on_axis p.lengths d; span = span_at p.first d }
 
 -- on that axis the present ends are a range inside the first
 abbrev pub present_inside : Piece → ℕ → Bool

@@ -30,6 +30,6 @@ abbrev pub extent_fits : Extent → Bool
 extent_fits e =
     int_le (pos 0) e.length
     && int_le e.length (pos max_length)
-    && int_le (neg_ℤ (pos max_end)) e.lower
-    && int_le e.lower e.upper
-    && int_le e.upper (pos max_end)
+    && int_le (neg_ℤ (pos max_end)) e.span.lower
+    && int_le e.span.lower e.span.upper
+    && int_le e.span.upper (pos max_end)

@@ -33,15 +33,19 @@ pub const NO_PIECE: Piece = Piece {
 #[derive(Clone, Copy)]
 pub struct Extent {
     pub length: i32,
-    pub lower: i32,
-    pub upper: i32,
+    pub span: Span,
 }
 
 /// Fills places that are not in use.
 pub const NO_EXTENT: Extent = Extent {
     length: 0,
-    lower: 0,
-    upper: 0,
+    span: Span { lower: 0, upper: 0 },
+};
+
+/// All origins that there are on an axis.
+const ORIGINS: Span = Span {
+    lower: -MAX_END,
+    upper: MAX_END,
 };
 
 impl Extent {
@@ -49,11 +53,7 @@ impl Extent {
     pub fn fits(&self) -> bool
         ensures { result ≡ extent_fits self.now }
     {
-        0 <= self.length
-            && self.length <= MAX_LENGTH
-            && -MAX_END <= self.lower
-            && self.lower <= self.upper
-            && self.upper <= MAX_END
+        0 <= self.length && self.length <= MAX_LENGTH && self.span.is_inside(&ORIGINS)
     }
 }
 
@@ -63,11 +63,9 @@ impl Piece {
         requires { axis < 3 }
         ensures { result ≡ first_extent self.now axis }
     {
-        let Span { lower, upper } = self.first.spans[axis];
         Extent {
             length: self.lengths[axis],
-            lower,
-            upper,
+            span: self.first.spans[axis],
         }
     }
 

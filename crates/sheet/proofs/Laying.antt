@@ -1,20 +1,20 @@
 -- Records laid down axis by axis, and piece by piece.
-use Rattle.std.proofs.Common.{◌≡◌, ℕ, ◌+◌, ◌<◌, ◌≤◌, List, [], ◌∷◌, ◌++◌, map, length, get_or, take, set, ℤ, pos, sym, refl, ap, ◌∙◌, arith}
+use Rattle.std.proofs.Common.{◌≡◌, ℕ, ◌+◌, ◌<◌, ◌≤◌, List, [], ◌∷◌, ◌++◌, map, length, get_or, take, set, pos, sym, refl, ap, ◌∙◌, arith}
 use Rattle.std.proofs.lemmas.List.{length-map, length-take-le, map_more}
+use Rattle.room.specs.Seen.{no_span}
 use Rattle.room.specs.declared.array_vec.ArrayVec.{ArrayVec}
-use Rattle.room.specs.declared.piece.Ends.{Ends}
 use Rattle.room.specs.declared.piece.Extent.{Extent}
 use Rattle.room.specs.declared.piece.Piece.{Piece}
 use Rattle.sheet.specs.Lay.{over, laid, laid_all, axis_laid}
 
-over_push : (ns old : List ℤ) (x : ℤ) → set (over ns old) (length ns) x ≡ over (ns ++ (x ∷ [])) old
+over_push : {A : Type 0} (ns old : List A) (x : A) → set (over ns old) (length ns) x ≡ over (ns ++ (x ∷ [])) old
 over_push [] [] x = refl
 over_push [] (o ∷ old) x = refl
 over_push (n ∷ ns) [] x = refl
 over_push (n ∷ ns) (o ∷ old) x = ap (λ l. n ∷ l) (over_push ns old x)
 
--- one more number is written
-over_more : (f : Extent → ℤ) (es : List Extent) (i : ℕ) (d : Extent) (old : List ℤ) → i < length es → set (over (map f (take i es)) old) i (f (get_or es i d)) ≡ over (map f (take (i + 1) es)) old
+-- one more is written
+over_more : {A : Type 0} (f : Extent → A) (es : List Extent) (i : ℕ) (d : Extent) (old : List A) → i < length es → set (over (map f (take i es)) old) i (f (get_or es i d)) ≡ over (map f (take (i + 1) es)) old
 over_more f es i d old h =
     let n : length (map f (take i es)) ≡ i = length-map (take i es) f ∙ length-take-le i es (omega arith) in
     ap (λ k. set (over (map f (take i es)) old) k (f (get_or es i d))) (sym n)
@@ -25,10 +25,8 @@ over_more f es i d old h =
 pub axis_more : (es : List Extent) (i : ℕ) (d : Extent) (old : Piece) → i < length es → axis_laid i (get_or es i d) (laid (take i es) old) ≡ laid (take (i + 1) es) old
 axis_more es i d old h =
     let a = over_more (λ e. e.length) es i d old.lengths h in
-    let b = over_more (λ e. e.lower) es i d old.first.lower h in
-    let k = over_more (λ e. e.upper) es i d old.first.upper h in
-    let m = over_more (λ e. e.lower) es i d old.present.lower h in
-    let n = over_more (λ e. e.upper) es i d old.present.upper h in
+    let b = over_more (λ e. e.span) es i d old.first.spans h in
+    let k = over_more (λ e. e.span) es i d old.present.spans h in
     cc
 
 pub laid_push : (ps : List (List Extent)) (old : List Piece) (p : List Extent) (d : Piece) → length ps < length old → set (laid_all ps old) (length ps) (laid p (get_or (laid_all ps old) (length ps) d)) ≡ laid_all (ps ++ (p ∷ [])) old
@@ -47,13 +45,7 @@ piece_more f xs i e old d h k =
 
 -- what a read past the end of a slice stands for
 abbrev pub no_extent : Extent
-no_extent = record { length = pos 0; lower = pos 0; upper = pos 0 }
+no_extent = record { length = pos 0; span = no_span }
 
 abbrev pub no_extents : ArrayVec Extent 3
 no_extents = record { len = 0; slots = [] }
-
-abbrev no_ends : Ends
-no_ends = record { lower = []; upper = [] }
-
-abbrev pub no_piece : Piece
-no_piece = record { lengths = []; first = no_ends; present = no_ends }

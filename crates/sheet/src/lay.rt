@@ -20,10 +20,8 @@ fn lay_axis(piece: &mut Piece, axis: usize, extent: &Extent)
     ensures { piece.new ≡ axis_laid axis extent.now piece.old }
 {
     piece.lengths[axis] = extent.length;
-    piece.first.lower[axis] = extent.lower;
-    piece.first.upper[axis] = extent.upper;
-    piece.present.lower[axis] = extent.lower;
-    piece.present.upper[axis] = extent.upper;
+    piece.first.spans[axis] = extent.span;
+    piece.present.spans[axis] = extent.span;
 }
 
 /// Writes the axes of one record; the others are left as they were.

@@ -2,7 +2,8 @@ use Rattle.std.proofs.Common.{map, get_or, set, ap, ◌∙◌, arith}
 use Rattle.std.proofs.lemmas.List.{take_all}
 use Rattle.room.specs.Listed.{listed}
 use Rattle.sheet.specs.Lay.{laid, laid_all}
-use Rattle.sheet.proofs.Laying.{piece_more, no_extents, no_piece}
+use Rattle.room.specs.Seen.{no_piece}
+use Rattle.sheet.proofs.Laying.{piece_more, no_extents}
 use Rattle.sheet.proofs.lay.lay_pieces.Goals as goal
 
 pub loop-i-preserved : goal.loop-i-preserved
