@@ -4,7 +4,7 @@ ghost use Rattle.std.specs.Prelude.{◌≡◌};
 ghost use Rattle.room.specs.Spans.{span_holds, span_inside, span_meets};
 
 /// A range from a lower to an upper end; where the lower end is above the upper, no origin lies in it.
-#[derive(Clone, Copy)]
+#[derive(Clone, Copy, Debug, PartialEq, Eq)]
 pub struct Span {
     pub lower: i32,
     pub upper: i32,

@@ -1,9 +1,10 @@
 -- The pictures of a sheet.
 use Rattle.std.specs.Prelude.{ℕ, List, length, replicate, pos, Ok, Err, Result}
 use Rattle.room.specs.Limits.{max_axes, max_pieces}
-use Rattle.room.specs.declared.piece.Ends.{Ends}
+use Rattle.room.specs.Seen.{no_span}
 use Rattle.room.specs.declared.piece.Piece.{Piece}
 use Rattle.room.specs.declared.refusal.Refusal.{Refusal}
+use Rattle.room.specs.declared.region.Region.{Region}
 use Rattle.sheet.specs.Lay.{laid_all}
 use Rattle.sheet.specs.Plan.{Plan}
 use Rattle.sheet_rule.specs.Together.{sheet_boxes, sheet_shut, sheet_suits}
@@ -12,8 +13,8 @@ use Rattle.shade.specs.Shaded.{shaded}
 -- records that are not in use
 abbrev blank : Piece
 blank =
-    let ends : Ends = record { lower = replicate max_axes (pos 0); upper = replicate max_axes (pos 0) } in
-    record { lengths = replicate max_axes (pos 0); first = ends; present = ends }
+    let bounds : Region = record { spans = replicate max_axes no_span } in
+    record { lengths = replicate max_axes (pos 0); first = bounds; present = bounds }
 
 -- the records of a plan: those of its pieces are laid down, the others are not looked at
 abbrev pub plan_records : Plan → List Piece

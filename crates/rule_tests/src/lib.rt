@@ -8,14 +8,15 @@ mod tests {
     use overlap::Overlap;
     use room::array_vec::ArrayVec;
     use room::orders::Order;
-    use room::piece::{Ends, Piece};
+    use room::piece::Piece;
     use room::point::Point;
     use room::refusal::Refusal;
     use room::region::Region;
+    use room::span::Span;
     use room::walls::Cell;
     use rule::both::Both;
     use rule::interface::Rule;
-    use rule::questions::{count, cover, listed, suits};
+    use rule::questions::{Question, suits};
     use std::process::Abort;
     use strip::Strip;
     use walls::WallRule;
@@ -28,12 +29,22 @@ mod tests {
         }
     }
 
+    fn span(lower: i32, upper: i32) -> Span {
+        Span { lower, upper }
+    }
+
     fn piece(lengths: [i32; 3], lower: [i32; 3], upper: [i32; 3]) -> Piece {
-        let ends = Ends { lower, upper };
+        let bounds = Region {
+            spans: [
+                span(lower[0], upper[0]),
+                span(lower[1], upper[1]),
+                span(lower[2], upper[2]),
+            ],
+        };
         Piece {
             lengths,
-            first: ends,
-            present: ends,
+            first: bounds,
+            present: bounds,
         }
     }
 
@@ -46,9 +57,18 @@ mod tests {
         Point { origins: [x, y, z] }
     }
 
+    fn asked(axes: usize, pieces: usize, records: &[Piece], piece: usize) -> Question<'_> {
+        Question {
+            axes,
+            pieces,
+            records,
+            piece,
+        }
+    }
+
     // whether an origin of piece 0 on one axis is shut
     fn is_shut<R: Rule>(rule: &R, records: &[Piece], x: i32) -> Result<bool, Refusal> {
-        let answer = cover(rule, 1, records.len(), records, 0, &point(x, 0, 0))?;
+        let answer = asked(1, records.len(), records, 0).cover(rule, &point(x, 0, 0))?;
         Ok(answer.is_some())
     }
 
@@ -112,17 +132,16 @@ mod tests {
         let records = [bar(3, 0, 12), bar(3, 5, 5)];
         shut_just(&rt, &both, &records, b"...#####..##.");
         assert_eq!(rt; number(suits(&both, 4, 1)), 5);
-        assert_eq!(rt; number(count(&both, 1, 2, &records, 0)), 0);
-        if let Ok(boxes) = count(&both, 1, 2, &records, 0) {
+        assert_eq!(rt; number(asked(1, 2, &records, 0).count(&both)), 0);
+        if let Ok(boxes) = asked(1, 2, &records, 0).count(&both) {
             assert_eq!(rt; boxes, 2);
         }
-        if let Ok(region) = listed(&both, 1, 2, &records, 0, 1) {
-            assert_eq!(rt; region.lower[0], 3);
-            assert_eq!(rt; region.upper[0], 7);
+        if let Ok(region) = asked(1, 2, &records, 0).listed(&both, 1) {
+            assert_eq!(rt; region.spans[0], span(3, 7));
         }
-        assert_eq!(rt; number(listed(&both, 1, 2, &records, 0, 2)), 11);
-        assert_eq!(rt; number(listed(&both, 1, 2, &records, 0, 999_999_999)), 11);
-        assert_eq!(rt; number(listed(&both, 1, 2, &records, 0, 1_000_000_000)), 5);
+        assert_eq!(rt; number(asked(1, 2, &records, 0).listed(&both, 2)), 11);
+        assert_eq!(rt; number(asked(1, 2, &records, 0).listed(&both, 999_999_999)), 11);
+        assert_eq!(rt; number(asked(1, 2, &records, 0).listed(&both, 1_000_000_000)), 5);
     }
 
     // a piece before, with length 2 and gap 1, and the piece after within 0..6
@@ -185,18 +204,10 @@ mod tests {
         assert!(rt; matches!(suits(&rule, 3, 23), Ok(false)));
     }
 
-    fn region_is(
-        answer: Result<Option<Region>, Refusal>,
-        lower: [i32; 2],
-        upper: [i32; 2],
-    ) -> bool {
+    // whether the answer is a box of these ranges on axes 0 and 1
+    fn region_is(answer: Result<Option<Region>, Refusal>, columns: Span, rows: Span) -> bool {
         match answer {
-            Ok(Some(region)) => {
-                region.lower[0] == lower[0]
-                    && region.lower[1] == lower[1]
-                    && region.upper[0] == upper[0]
-                    && region.upper[1] == upper[1]
-            }
+            Ok(Some(region)) => region.spans[0] == columns && region.spans[1] == rows,
             _ => false,
         }
     }
@@ -224,24 +235,24 @@ mod tests {
             .enumerate()
         {
             for (x, letter) in row.bytes().enumerate() {
-                let answer = cover(&rule, 2, 1, &records, 0, &point(x as i32, y as i32, 0));
+                let answer = asked(2, 1, &records, 0).cover(&rule, &point(x as i32, y as i32, 0));
                 assert_eq!(rt; number(answer), 0);
                 if letter == b'#' {
-                    assert!(rt; region_is(answer, [1, 1], [2, 3]));
+                    assert!(rt; region_is(answer, span(1, 2), span(1, 3)));
                 } else {
                     assert!(rt; matches!(answer, Ok(None)));
                 }
             }
         }
-        assert!(rt; matches!(count(&rule, 2, 1, &records, 0), Ok(3)));
+        assert!(rt; matches!(asked(2, 1, &records, 0).count(&rule), Ok(3)));
         assert!(rt; matches!(suits(&rule, 1, 1), Ok(false)));
         assert_eq!(rt;
-            number(cover(&rule, 1, 1, &records, 0, &point(0, 0, 0))),
+            number(asked(1, 1, &records, 0).cover(&rule, &point(0, 0, 0))),
             13
         );
         let open = WallRule::new(&ArrayVec::new(ArrayVec::new(Cell::Open)));
         assert!(rt; matches!(suits(&open, 1, 1), Ok(true)));
-        assert_eq!(rt; number(cover(&open, 1, 1, &records, 0, &point(0, 0, 0))), 0);
+        assert_eq!(rt; number(asked(1, 1, &records, 0).cover(&open, &point(0, 0, 0))), 0);
     }
 
     // each check comes before the next: every line also fails all the checks after its own
@@ -251,30 +262,30 @@ mod tests {
         let good = bar(1, 0, 6);
         let unfit = bar(1_000_001, 0, 6);
         let far = point(7, 0, 0);
-        assert_eq!(rt; number(cover(&rule, 0, 2, &[unfit], 9, &far)), 5);
-        assert_eq!(rt; number(cover(&rule, 4, 2, &[unfit], 9, &far)), 5);
-        assert_eq!(rt; number(cover(&rule, 1, 0, &[unfit], 9, &far)), 5);
-        assert_eq!(rt; number(cover(&rule, 1, 25, &[unfit], 9, &far)), 5);
-        assert_eq!(rt; number(cover(&rule, 1, 2, &[unfit], 9, &far)), 6);
-        assert_eq!(rt; number(cover(&rule, 1, 2, &[good, unfit], 9, &far)), 7);
+        assert_eq!(rt; number(asked(0, 2, &[unfit], 9).cover(&rule, &far)), 5);
+        assert_eq!(rt; number(asked(4, 2, &[unfit], 9).cover(&rule, &far)), 5);
+        assert_eq!(rt; number(asked(1, 0, &[unfit], 9).cover(&rule, &far)), 5);
+        assert_eq!(rt; number(asked(1, 25, &[unfit], 9).cover(&rule, &far)), 5);
+        assert_eq!(rt; number(asked(1, 2, &[unfit], 9).cover(&rule, &far)), 6);
+        assert_eq!(rt; number(asked(1, 2, &[good, unfit], 9).cover(&rule, &far)), 7);
         assert_eq!(rt;
-            number(cover(&rule, 1, 2, &[good, good, unfit], 9, &far)),
+            number(asked(1, 2, &[good, good, unfit], 9).cover(&rule, &far)),
             13
         );
         let rule = Strip::new(0, 0, 0);
         assert_eq!(rt;
-            number(cover(&rule, 1, 2, &[good, good, unfit], 2, &far)),
+            number(asked(1, 2, &[good, good, unfit], 2).cover(&rule, &far)),
             5
         );
         assert_eq!(rt;
-            number(cover(&rule, 1, 2, &[good, good, unfit], 1, &far)),
+            number(asked(1, 2, &[good, good, unfit], 1).cover(&rule, &far)),
             5
         );
         assert_eq!(rt;
-            number(cover(&rule, 1, 2, &[good, good, unfit], 1, &point(6, 7, 8))),
+            number(asked(1, 2, &[good, good, unfit], 1).cover(&rule, &point(6, 7, 8))),
             0
         );
-        assert_eq!(rt; number(count(&rule, 1, 2, &[good, good], 2)), 5);
+        assert_eq!(rt; number(asked(1, 2, &[good, good], 2).count(&rule)), 5);
         assert_eq!(rt; number(suits(&rule, 3, 24)), 0);
         assert_eq!(rt; number(suits(&rule, 3, 25)), 5);
     }
@@ -284,12 +295,12 @@ mod tests {
     fn records_looked_at(rt: HostRuntime) {
         let rule = Overlap::strict();
         let mut outside = bar(1, 0, 6);
-        outside.present.upper[0] = 7;
-        assert_eq!(rt; number(count(&rule, 1, 1, &[outside], 0)), 7);
-        outside.present.upper[0] = -1;
-        assert_eq!(rt; number(count(&rule, 1, 1, &[outside], 0)), 7);
-        outside.present.upper[0] = 5;
-        assert_eq!(rt; number(count(&rule, 1, 1, &[outside], 0)), 0);
-        assert_eq!(rt; number(count(&rule, 2, 1, &[outside], 0)), 7);
+        outside.present.spans[0].upper = 7;
+        assert_eq!(rt; number(asked(1, 1, &[outside], 0).count(&rule)), 7);
+        outside.present.spans[0].upper = -1;
+        assert_eq!(rt; number(asked(1, 1, &[outside], 0).count(&rule)), 7);
+        outside.present.spans[0].upper = 5;
+        assert_eq!(rt; number(asked(1, 1, &[outside], 0).count(&rule)), 0);
+        assert_eq!(rt; number(asked(2, 1, &[outside], 0).count(&rule)), 7);
     }
 }

@@ -14,8 +14,10 @@ mod tests {
     use canon::format::reply;
     use room::array_vec::ArrayVec;
     use room::orders::{Order, Orders};
-    use room::piece::{Ends, Piece};
+    use room::piece::Piece;
     use room::refusal::Refusal;
+    use room::region::Region;
+    use room::span::Span;
     use room::walls::{Cell, WallMap};
     use sheet::lay::read_sheet;
     use std::alloc::{AllocError, Global};
@@ -255,15 +257,15 @@ mod tests {
         replies(&rt, heap, &longer, "refused 1 sheet 0\n")
     }
 
-    const JUNK: Ends = Ends {
-        lower: [7, 7, 7],
-        upper: [-7, -7, -7],
+    const JUNK: Span = Span {
+        lower: 7,
+        upper: -7,
     };
 
     const LENT: Piece = Piece {
         lengths: [9, 9, 9],
-        first: JUNK,
-        present: JUNK,
+        first: Region { spans: [JUNK; 3] },
+        present: Region { spans: [JUNK; 3] },
     };
 
     fn no_walls() -> WallMap {
@@ -295,10 +297,13 @@ mod tests {
         }
         let second = records[1];
         assert_eq!(rt; second.lengths, [2, 1, 9]);
-        assert_eq!(rt; second.first.lower, [0, 0, 7]);
-        assert_eq!(rt; second.first.upper, [2, 1, -7]);
-        assert_eq!(rt; second.present.lower, [0, 0, 7]);
-        assert_eq!(rt; second.present.upper, [2, 1, -7]);
+        let spans = [
+            Span { lower: 0, upper: 2 },
+            Span { lower: 0, upper: 1 },
+            Span { lower: 7, upper: -7 },
+        ];
+        assert_eq!(rt; second.first.spans, spans);
+        assert_eq!(rt; second.present.spans, spans);
         assert_eq!(rt; records[3].lengths, LENT.lengths);
         assert_eq!(rt; walls.len(), 2);
         assert_eq!(rt; orders.len(), 1);
