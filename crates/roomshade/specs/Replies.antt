@@ -10,7 +10,7 @@ use Rattle.sheet_rule.specs.Together.{sheet_boxes, sheet_shut, sheet_suits}
 use Rattle.shade.specs.Shaded.{shaded}
 
 -- records that are not in use
-abbrev blank : Piece
+abbrev pub blank : Piece
 blank =
     let ends : Ends = record { lower = replicate max_axes (pos 0); upper = replicate max_axes (pos 0) } in
     record { lengths = replicate max_axes (pos 0); first = ends; present = ends }
