@@ -11,7 +11,7 @@ use Rattle.sheet_rule.specs.Together.{sheet_boxes, sheet_shut, sheet_suits}
 use Rattle.shade.specs.Shaded.{shaded}
 
 -- records that are not in use
-abbrev blank : Piece
+abbrev pub blank : Piece
 blank =
     let bounds : Region = record { spans = replicate max_axes no_span } in
     record { lengths = replicate max_axes (pos 0); first = bounds; present = bounds }

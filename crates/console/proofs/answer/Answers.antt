@@ -12,4 +12,5 @@ cut room n (Some xs) (Some ys) bytes long fits read end = let e = length-take-le
 
 pub returns : goal.returns
 returns g c =
-    (_, cut _ c.in_ok-filled.filled _ _ c.fill.new.buffer (omega arith) c.in_ok-filled.ensures.bound c.in_ok-filled.ensures.bytes c.in_ok-filled.ensures.end, c.in_ok-reply.ensures)
+    let read = c.in_ok-filled.ensures in
+    (_, cut _ _ _ _ c.fill.new.buffer (omega arith) read.bound read.bytes read.end, c.in_ok-reply.ensures)

@@ -1,4 +1,4 @@
-use Rattle.std.proofs.Common.{◌≡◌, ℕ, ◌+◌, ◌≤◌, List, ◌++◌, take, length, arith, subst, length-take-le}
+use Rattle.std.proofs.Common.{rules, Option, ◌≡◌, ℕ, ◌+◌, ◌≤◌, List, ◌++◌, take, length, arith, subst, length-take-le}
 use Rattle.std.proofs.Math.Seq.{take-append-add}
 use Rattle.std.proofs.lemmas.List.{take-append-le}
 use Rattle.std.specs.Io.KnownBytes.{Consumes}
@@ -10,10 +10,9 @@ use Rattle.console.proofs.fill.Goals as goal
 joined : (n k got : ℕ) (xs ys : List ℕ) → n ≤ length xs → got ≤ length ys → take n xs ++ take got ys ≡ take (n + got) (put_mid n k xs ys)
 joined n k got xs ys within fits = let e = length-take-le n xs within in grind (arith, take-append-add, take-append-le)
 
+-- and they are what two reads gave
+read_more : (before between after : Option (List ℕ)) (n k got : ℕ) (xs ys : List ℕ) → n ≤ length xs → got ≤ length ys → Consumes before between (take n xs) → Consumes between after (take got ys) → Consumes before after (take (n + got) (put_mid n k xs ys))
+read_more before between after n k got xs ys within fits first second = subst (Consumes before after) (joined n k got xs ys within fits) (Consumes-trans before between after _ _ first second)
+
 pub loop-filled-preserved : goal.loop-filled-preserved
-loop-filled-preserved g c =
-    let from = c.loop-filled.filled in
-    let got = c.in_ok-got.got in
-    let fits : got ≤ length c.read.new.buf = c.in_ok-got.ensures.bound.0 in
-    let both = Consumes-trans _ _ _ _ _ c.loop-filled.invariant.1 c.in_ok-got.ensures.bytes.0 in
-    (omega arith, subst (Consumes _ _) (joined from _ got c.loop-filled.buffer c.read.new.buf (omega arith) fits) both)
+loop-filled-preserved g c = search (rules, read_more)
