@@ -36,7 +36,7 @@ impl From<fmt::Error> for Unanswered {
 }
 
 /// What a program prints: the text, or one line that says why it is refused. It fails only for want of memory.
-pub fn told(heap: Global, answer: Result<String, Unanswered>) -> Result<String, AllocError>
+pub fn printed(heap: Global, answer: Result<String, Unanswered>) -> Result<String, AllocError>
     ensures { (outcome : Result (List ℕ) Refusal) → Gives outcome answer → IfOk result (λ t. string_bytes t ≡ printed outcome) }
 {
     match answer {

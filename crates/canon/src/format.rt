@@ -10,7 +10,7 @@ ghost use Rattle.canon.specs.Formatted.{formatted};
 ghost use Rattle.canon.specs.Kept.{KeepsLimits};
 
 use crate::writer::{Canonical, put_each};
-use answer::{Unanswered, told};
+use answer::{Unanswered, printed};
 use sheet::reader::Sheet;
 use std::alloc::{AllocError, Global};
 use std::fmt;
@@ -44,5 +44,5 @@ pub fn format_sheet(heap: Global, text: &[u8]) -> Result<String, Unanswered>
 pub fn reply(heap: Global, text: &[u8]) -> Result<String, AllocError>
     ensures { IfOk result (λ t. string_bytes t ≡ printed (formatted text.now)) }
 {
-    told(heap, format_sheet(heap, text))
+    printed(heap, format_sheet(heap, text))
 }

@@ -5,7 +5,7 @@ ghost use Rattle.sheet.specs.Meaning.{meaning};
 ghost use Rattle.answer.specs.Answers.{Gives, printed};
 ghost use Rattle.roomshade.specs.Replies.{sheet_shaded};
 
-use answer::{Unanswered, told};
+use answer::{Unanswered, printed};
 use room::array_vec::ArrayVec;
 use room::limits::MAX_PIECES;
 use room::orders::NO_ORDER;
@@ -32,5 +32,5 @@ fn shade_sheet(heap: Global, text: &[u8]) -> Result<String, Unanswered>
 pub fn reply(heap: Global, text: &[u8]) -> Result<String, AllocError>
     ensures { IfOk result (λ t. string_bytes t ≡ printed (sheet_shaded (meaning text.now))) }
 {
-    told(heap, shade_sheet(heap, text))
+    printed(heap, shade_sheet(heap, text))
 }
