@@ -4,7 +4,7 @@ use Rattle.std.proofs.lemmas.Int.{ints}
 use Rattle.std.proofs.lemmas.Bool.{cond-true, cond-false}
 use Rattle.std.proofs.lemmas.Bool.Decides.{Decides-and}
 use Rattle.room.specs.Fit.{Board}
-use Rattle.room.specs.Seen.{Room, Box, Meets, at, meets, on_axis, room_of}
+use Rattle.room.specs.Seen.{Room, Box, Meets, at, highs, lows, meets, on_axis, room_of}
 use Rattle.room.specs.declared.piece.Piece.{Piece}
 use Rattle.room.proofs.Belows.{false_from}
 use Rattle.room.proofs.Cuts.{cut_below, common_point, meets_from, decides_meets}
@@ -22,11 +22,11 @@ module _ (mode : Overlap) (k : ℕ) (records : List Piece) (i j : ℕ) where
   pub box_seen : SameBox k (pair_box (at records i).lengths (at records j)) (clash_box (room_of k records) i j)
   box_seen = record {
     from_same = λ d h.
-        let high = cut_below k (on_axis (at records j).present.upper) d h in
+        let high = cut_below k (highs (at records j).present) d h in
         let mine = cut_below k (on_axis (at records i).lengths) d h in
         omega (arith, ints);
     to_same = λ d h.
-        let low = cut_below k (on_axis (at records j).present.lower) d h in
+        let low = cut_below k (lows (at records j).present) d h in
         let its = cut_below k (on_axis (at records j).lengths) d h in
         omega (arith, ints);
   }
@@ -60,13 +60,13 @@ rivals_seen mode k records i j other can = record { other = other; can = λ e. c
 pub ends_fit : (k : ℕ) (records : List Piece) (i j : ℕ) → Board k records → i < length records → j < length records → EndsFit k (clash_box (room_of k records) i j)
 ends_fit k records i j board here there = record {
   least = λ d h.
-      let high = cut_below k (on_axis (at records j).present.upper) d h in
+      let high = cut_below k (highs (at records j).present) d h in
       let mine = cut_below k (on_axis (at records i).lengths) d h in
       let a = board.limits i here d h in
       let b = board.limits j there d h in
       omega (arith, ints);
   most = λ d h.
-      let low = cut_below k (on_axis (at records j).present.lower) d h in
+      let low = cut_below k (lows (at records j).present) d h in
       let its = cut_below k (on_axis (at records j).lengths) d h in
       let b = board.limits j there d h in
       omega (arith, ints);

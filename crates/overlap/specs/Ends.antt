@@ -2,7 +2,7 @@
 use Rattle.std.specs.Prelude.{◌≡◌, ℕ, ◌<◌, ◌⊎◌, List, ℤ, pos, ◌+ℤ◌, ◌-ℤ◌, ◌≤ℤ◌}
 use Rattle.room.specs.Fit.{AxisLimits}
 use Rattle.room.specs.Limits.{max_length}
-use Rattle.room.specs.Seen.{Box, on_axis}
+use Rattle.room.specs.Seen.{Box, highs, lows, on_axis}
 use Rattle.room.specs.declared.piece.Piece.{Piece}
 use Rattle.overlap.specs.declared.Overlap.{Overlap}
 use Rattle.overlap.specs.declared.Overlap.TheVariants.{Strict, Nonstrict}
@@ -16,8 +16,8 @@ pub record PairLimits (lengths : List ℤ) (other : Piece) (d : ℕ) : Type 0 wh
 -- the box of a pair
 abbrev pub pair_box : List ℤ → Piece → Box
 pair_box lengths other = record {
-  from = λ d. (on_axis other.present.upper d -ℤ on_axis lengths d) +ℤ pos 1;
-  to = λ d. (on_axis other.present.lower d +ℤ on_axis other.lengths d) -ℤ pos 1;
+  from = λ d. (highs other.present d -ℤ on_axis lengths d) +ℤ pos 1;
+  to = λ d. (lows other.present d +ℤ on_axis other.lengths d) -ℤ pos 1;
 }
 
 -- a length of the pair is 0 on some axis

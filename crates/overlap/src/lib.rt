@@ -16,8 +16,10 @@ use room::limits::MAX_AXES;
 use room::piece::Piece;
 use room::point::Point;
 use room::region::Region;
+use room::span::Span;
 use rule::interface::Rule;
 use rule::listing::{Sources, count_boxes, listed_box};
+use rule::subject::Subject;
 
 /// Pieces i and j clash when, on every axis, i's origin lies below j's origin + length, and j's below i's origin + length.
 /// A point of a piece is shut when some other piece clashes with it at every origin within that piece's bounds.
@@ -37,8 +39,8 @@ fn clash_ends(lengths: &[i32; MAX_AXES], other: &Piece, axis: usize) -> (i32, i3
     ensures to { result.1 ≡ (pair_box lengths.now other.now).to axis }
 {
     (
-        other.present.upper[axis] - lengths[axis] + 1,
-        other.present.lower[axis] + other.lengths[axis] - 1,
+        other.present.spans[axis].upper - lengths[axis] + 1,
+        other.present.spans[axis].lower + other.lengths[axis] - 1,
     )
 }
 
@@ -64,14 +66,12 @@ fn clash_region(axes: usize, lengths: &[i32; MAX_AXES], other: &Piece) -> Region
     requires limits { (d : ℕ) → d < axes → PairLimits lengths.now other.now d }
     ensures { SameBox axes (box_of result) (pair_box lengths.now other.now) }
 {
-    let mut lower = [0; MAX_AXES];
-    let mut upper = [0; MAX_AXES];
+    let mut spans = [Span { lower: 0, upper: 0 }; MAX_AXES];
     for axis in 0..axes {
-        let (from, to) = clash_ends(lengths, other, axis);
-        lower[axis] = from;
-        upper[axis] = to;
+        let (lower, upper) = clash_ends(lengths, other, axis);
+        spans[axis] = Span { lower, upper };
     }
-    Region { lower, upper }
+    Region { spans }
 }
 
 /// Whether a length of the pair is 0 on some axis.
@@ -131,26 +131,26 @@ impl Rule for Overlap {
         true
     }
 
-    fn cover(&self, axes: usize, records: &[Piece], piece: usize, point: &Point) -> Option<Region> {
-        let lengths = records[piece].lengths;
-        for (j, other) in records.iter().enumerate() {
-            let is_other = j != piece;
+    fn cover(&self, subject: &Subject<'_>, point: &Point) -> Option<Region> {
+        let lengths = subject.records[subject.piece].lengths;
+        for (j, other) in subject.records.iter().enumerate() {
+            let is_other = j != subject.piece;
             if is_other
-                && clashes_at(axes, &lengths, other, point)
-                && !self.exempts(axes, &lengths, other)
+                && clashes_at(subject.axes, &lengths, other, point)
+                && !self.exempts(subject.axes, &lengths, other)
             {
-                return Some(clash_region(axes, &lengths, other));
+                return Some(clash_region(subject.axes, &lengths, other));
             }
         }
         None
     }
 
-    fn count(&self, axes: usize, records: &[Piece], piece: usize) -> Option<usize> {
-        count_boxes(self, axes, records, piece)
+    fn count(&self, subject: &Subject<'_>) -> Option<usize> {
+        count_boxes(self, subject)
     }
 
-    fn listed(&self, axes: usize, records: &[Piece], piece: usize, number: usize) -> Region {
-        listed_box(self, axes, records, piece, number)
+    fn listed(&self, subject: &Subject<'_>, number: usize) -> Region {
+        listed_box(self, subject, number)
     }
 }
 
@@ -162,25 +162,19 @@ impl Sources for Overlap {
 
     ghost given = { clash_source };
 
-    fn sources(&self, _axes: usize, records: &[Piece], _piece: usize) -> usize {
-        records.len()
+    fn sources(&self, subject: &Subject<'_>) -> usize {
+        subject.records.len()
     }
 
-    fn source_box(
-        &self,
-        axes: usize,
-        records: &[Piece],
-        piece: usize,
-        source: usize,
-    ) -> Option<Region> {
-        let asked = &records[piece];
-        let other = &records[source];
-        let is_asked = source == piece;
-        if is_asked || self.exempts(axes, &asked.lengths, other) {
+    fn source_box(&self, subject: &Subject<'_>, source: usize) -> Option<Region> {
+        let asked = &subject.records[subject.piece];
+        let other = &subject.records[source];
+        let is_asked = source == subject.piece;
+        if is_asked || self.exempts(subject.axes, &asked.lengths, other) {
             return None;
         }
-        let region = clash_region(axes, &asked.lengths, other);
-        if region.meets(axes, &asked.present) {
+        let region = clash_region(subject.axes, &asked.lengths, other);
+        if region.meets(subject.axes, &asked.present) {
             Some(region)
         } else {
             None

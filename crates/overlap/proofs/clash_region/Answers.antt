@@ -5,10 +5,8 @@ use Rattle.overlap.proofs.clash_region.Goals as goal
 pub loop-axis-preserved : goal.loop-axis-preserved
 loop-axis-preserved c =
     let i = c.loop-axis.axis in
-    let in_lower : i < length c.loop-axis.lower = omega arith in
-    let in_upper : i < length c.loop-axis.upper = omega arith in (
+    let within : i < length c.loop-axis.spans = omega arith in (
       simp length-set c.loop-axis.invariant.0,
-      simp length-set c.loop-axis.invariant.1,
+      below_more _ _ (λ d h. let ne : d ≢ i = omega arith in rw get_or-set_other (c.loop-axis.invariant.1 d h)) (rw get_or-set_same (omega (arith, ints))),
       below_more _ _ (λ d h. let ne : d ≢ i = omega arith in rw get_or-set_other (c.loop-axis.invariant.2 d h)) (rw get_or-set_same (omega (arith, ints))),
-      below_more _ _ (λ d h. let ne : d ≢ i = omega arith in rw get_or-set_other (c.loop-axis.invariant.3 d h)) (rw get_or-set_same (omega (arith, ints))),
     )

@@ -11,9 +11,9 @@ use Rattle.overlap.proofs.OverlapRule.cover.Goals.{else-is_other-via-then-is_oth
 pub returns-then-not-exempts : goal.returns-then-not-exempts
 returns-then-not-exempts c =
     let mode = c.args.self.now in
-    let k = c.args.axes in
-    let rs = c.args.records.now in
-    let i = c.args.piece in
+    let k = c.args.subject.now.axes in
+    let rs = c.args.subject.now.records.now in
+    let i = c.args.subject.now.piece in
     let j = c.loop-j.j in
     let x = point_of k c.args.point.now.origins in
     let seen = box_seen mode k rs i j in
@@ -23,15 +23,15 @@ returns-then-not-exempts c =
     same_covers (same_back same) (same_covers (same_back seen) (record {
       holds = same_holds x seen held;
       shuts = rival_shuts mode k (room_of k rs) i j c.loop-j-test.true rival;
-      ends = ends_fit k rs i j c.requires.asked.board c.requires.asked.known c.loop-j-test.true;
+      ends = ends_fit k rs i j c.args.subject.now.board c.args.subject.now.known c.loop-j-test.true;
     }))
 
 pub loop-j-preserved : goal.loop-j-preserved
 loop-j-preserved c =
     let mode = c.args.self.now in
-    let k = c.args.axes in
-    let rs = c.args.records.now in
-    let i = c.args.piece in
+    let k = c.args.subject.now.axes in
+    let rs = c.args.subject.now.records.now in
+    let i = c.args.subject.now.piece in
     let j = c.loop-j.j in
     let x = point_of k c.args.point.now.origins in
     below_more _ _ c.loop-j.invariant
@@ -43,6 +43,6 @@ loop-j-preserved c =
 
 pub returns : goal.returns
 returns c =
-    let k = c.args.axes in
-    false_from _ (decides_shut c.args.self.now k (room_of k c.args.records.now) c.args.piece (point_of k c.args.point.now.origins))
+    let k = c.args.subject.now.axes in
+    false_from _ (decides_shut c.args.self.now k (room_of k c.args.subject.now.records.now) c.args.subject.now.piece (point_of k c.args.point.now.origins))
     (λ (j, known, boxed). c.loop-j.invariant j (omega arith) boxed)
