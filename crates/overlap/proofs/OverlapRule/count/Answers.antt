@@ -1,5 +1,5 @@
 use Rattle.rule.proofs.Gatherings.{sound_lists}
-use Rattle.overlap.proofs.Paired.{sound}
+use Rattle.overlap.proofs.Rivals.{sound}
 use Rattle.overlap.proofs.OverlapRule.count.Goals as goal
 
 pub returns-clause-lists : goal.returns-clause-lists

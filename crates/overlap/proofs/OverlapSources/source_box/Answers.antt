@@ -2,7 +2,8 @@ use Rattle.std.proofs.Common.{sym, subst}
 use Rattle.rule.specs.Gathered.{Shows}
 use Rattle.rule.specs.Subjects.{room_seen}
 use Rattle.overlap.specs.Clash.{clash_source}
-use Rattle.overlap.proofs.Paired.{not_exempt, shown_there, source_none}
+use Rattle.overlap.proofs.Paired.{not_exempt, shown_there}
+use Rattle.overlap.proofs.Rivals.{source_none}
 use Rattle.overlap.proofs.OverlapSources.source_box.Goals as goal
 use Rattle.overlap.proofs.OverlapSources.source_box.Goals.{then-is_asked-via-then-is_asked, then-is_asked-via-else-is_asked+then-exempts}
 
