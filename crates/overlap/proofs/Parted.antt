@@ -3,11 +3,10 @@ use Rattle.std.proofs.Common.{◌≡◌, ℕ, ◌<◌, false, ◌&&◌, ◌⊎�
 use Rattle.std.proofs.Math.Logic.{⊎_map, ⊎_swap}
 use lib.Signed.{le_z}
 use Rattle.std.proofs.lemmas.Int.{ints}
-use Rattle.std.proofs.lemmas.Bool.{both_ways, and_parts, and_cases, cases_Bool, cases_order}
+use Rattle.std.proofs.lemmas.Bool.{both_ways, cases_Bool, cases_order}
 use Rattle.std.proofs.lemmas.Bool.Decides.{not_from_Decides}
 use Rattle.room.specs.Seen.{Room}
 use Rattle.room.proofs.Belows.{all_or_some, false_from}
-use Rattle.room.proofs.Cuts.{decides_int_le}
 use Rattle.rule.specs.Kept.{Placement, Keeps, Same, fixed}
 use Rattle.overlap.specs.Clash.{exempt, clash_box, overlap_shut, Exempt}
 use Rattle.overlap.specs.Diffn.{StrictKept, NonstrictKept}
@@ -40,16 +39,12 @@ clear : (mode : Overlap) (k : ℕ) (r : Room) (q : Placement) (i j : ℕ) → Pa
 clear mode k r q i j parted boxed =
     ⊎_elim
     (λ e. boxed.rival.can ((exempt_fixed mode k r q i j).1 e))
-    (λ (d, h, apart). let held = boxed.held d h in ⊎_elim (λ a. omega (arith, ints)) (λ b. omega (arith, ints)) apart)
+    (λ (d, h, apart). let held = boxed.held d h in grind (arith, ints))
     parted
 
 -- an axis on which the point is out of the box is one on which the pair is apart
 out_apart : (r : Room) (q : Placement) (i j d : ℕ) → (le_z ((clash_box (fixed r q) i j).from d) (q i d) && le_z (q i d) ((clash_box (fixed r q) i j).to d)) ≡ false → Apart r q i j d
-out_apart r q i j d out =
-    ⊎_elim
-    (λ e. inl (let n = not_from_Decides _ (decides_int_le ((clash_box (fixed r q) i j).from d) (q i d)) e in grind (arith, ints)))
-    (λ e. inr (let n = not_from_Decides _ (decides_int_le (q i d) ((clash_box (fixed r q) i j).to d)) e in grind (arith, ints)))
-    (and_cases _ _ out)
+out_apart r q i j d out = grind (arith, ints)
 
 -- a pair that does not clash is parted
 parted_from : (mode : Overlap) (k : ℕ) (r : Room) (q : Placement) (i j : ℕ) → (j ≡ i → ⊥) → (Boxed mode k (fixed r q) i (q i) j → ⊥) → Parted mode k r q i j
@@ -59,9 +54,7 @@ parted_from mode k r q i j other free =
     (λ e. ⊎_elim
     (λ every. absurd (free (record {
       rival = record { other = other; can = not_from_Decides _ (decides_exempt mode k (fixed r q) i j) e };
-      held = λ d h.
-          let (low, high) = and_parts _ _ (every d h) in
-          ((decides_int_le ((clash_box (fixed r q) i j).from d) (q i d)).0 low, (decides_int_le (q i d) ((clash_box (fixed r q) i j).to d)).0 high);
+      held = λ d h. let passes = every d h in (grind (arith, ints), grind (arith, ints));
     })))
     (λ (d, h, out). inr (d, h, out_apart r q i j d out))
     (all_or_some (λ d. le_z ((clash_box (fixed r q) i j).from d) (q i d) && le_z (q i d) ((clash_box (fixed r q) i j).to d)) k))
@@ -90,7 +83,7 @@ strict_kept k r q = (
 pub nonstrict_kept : NonstrictKept
 nonstrict_kept k r q = (
   λ keeps i j below known. ⊎_elim
-      (λ (d, h, zero). (d, h, ⊎_elim (λ a. inl a) (λ b. inr (inl b)) zero))
+      (λ (d, h, zero). (d, h, ⊎_map (λ a. a) inl zero))
       (λ (d, h, apart). (d, h, inr (inr apart)))
       ((kept_parted Nonstrict k r q).0 keeps i j below known),
   λ diffn. (kept_parted Nonstrict k r q).1 (λ i j below known.
