@@ -72,6 +72,7 @@ impl Rule for Overlap {
     }
 
     fn cover(&self, subject: &Subject<'_>, point: &Point) -> Option<Region> {
+        // A fixed form of the project: a loop over the records with their numbers, which skips the asked piece.
         for (j, other) in subject.records.iter().enumerate() {
             let is_other = j != subject.piece;
             let pair = Pair::new(subject, other);
