@@ -1,15 +1,19 @@
 -- The box of an entry: its ends, and that it holds exactly the points that the entry shuts.
-use Rattle.std.proofs.Common.{◌≡◌, ℕ, ◌<◌, Bool, true, false, cond, ◌&&◌, eqb, List, length, set, ℤ, pos, ◌≤ℤ◌, sym, refl, ap, ◌∙◌, inl, inr, ⊎_elim, arith}
+use Rattle.std.proofs.Common.{◌≡◌, ℕ, ◌<◌, true, cond, ◌&&◌, eqb, ℤ, ◌≤ℤ◌, sym, refl, ap, ◌∙◌, inl, inr, ⊎_elim, arith}
 use Rattle.std.specs.Int.{int_max, int_min}
-use Rattle.std.proofs.lemmas.List.{get_or-set_same, get_or-set_other}
 use Rattle.std.proofs.lemmas.Int.{ints, clamps}
 use Rattle.std.proofs.lemmas.Bool.{and_from, and_parts, cases_eq, cond_both, cond-true, cond-false, eq-eqb, eqb-true, ne_eqb, or_cases}
-use Rattle.room.specs.Seen.{Room, Point, Within, Holds, at, box_of, on_axis}
+use Rattle.room.specs.Seen.{Room, Point, Within, Holds, at, box_of, highs, lows, on_axis, span_at}
 use Rattle.room.specs.declared.orders.Order.{Order}
 use Rattle.room.specs.declared.piece.Piece.{Piece}
+use Rattle.room.specs.declared.region.Region.{Region}
+use Rattle.room.specs.declared.span.Span.{Span}
 use Rattle.room.proofs.Belows.{false_from, passes}
+use Rattle.room.proofs.Cuts.{cut_below}
 use Rattle.rule.specs.Means.{SameBox}
-use Rattle.orders.specs.Boxes.{first_shut, last_shut, order_box, whole}
+use Rattle.rule.specs.Subjects.{room_seen}
+use Rattle.rule.specs.declared.subject.Subject.{Subject}
+use Rattle.orders.specs.Boxes.{Applies, first_shut, last_shut, order_box, order_span}
 use Rattle.orders.specs.Named.{Legal, names}
 use Rattle.orders.specs.Shutting.{Parted}
 
@@ -79,30 +83,51 @@ module _ (r : Room) (p : ℕ) (o : Order) where
               (cases_eq d o.axis),
         )
 
--- an array with another number on an axis
-pub axis_set : (xs : List ℤ) (axis : ℕ) (v : ℤ) → axis < length xs → (d : ℕ) → on_axis (set xs axis v) d ≡ cond (eqb d axis) v (on_axis xs d)
-axis_set xs axis v there d =
-    ⊎_elim
-    (λ same. ap (on_axis (set xs axis v)) same ∙ get_or-set_same xs axis v (pos 0) there ∙ sym (cond-true _ _ _ (eq-eqb d axis same)))
-    (λ other. get_or-set_other xs axis d v (pos 0) other ∙ sym (cond-false _ _ _ (ne_eqb d axis other)))
-    (cases_eq d axis)
+same_span : (one two : Span) → one.lower ≡ two.lower → one.upper ≡ two.upper → one ≡ two
+same_span one two lower upper = ap (λ z. record { lower = z; upper = one.upper }) lower ∙ ap (λ z. record { lower = two.lower; upper = z }) upper
 
--- two tests of which the second passes
-only_axis : (a b : Bool) (x y z : ℤ) → b ≡ true → (a ≡ true → x ≡ z) → cond a x y ≡ cond (a && b) z y
-only_axis true b x y z is same = same refl ∙ sym (cond-true b z y is)
-only_axis false b x y z is same = refl
+-- where an entry applies to the piece asked about, the room shows what the records hold on its axis
+module _ (s : Subject) (o : Order) (applies : Applies s o) where
+  pub size_seen : (room_seen s).size o.before o.axis ≡ on_axis (at s.records.now o.before).lengths o.axis
+  size_seen = cut_below s.axes _ o.axis applies.suits.axis_in
 
-module _ (records : List Piece) (p : ℕ) (o : Order) where
-  -- a region that has the box's ends, where the piece is the one before
-  pub same_before : (lower : List ℤ) (v : ℤ) → Legal o → p ≡ o.before → ((d : ℕ) → on_axis lower d ≡ cond (eqb d o.axis) v ((whole records).low p d)) → v ≡ int_max ((whole records).low p o.axis) (first_shut (whole records) o) → SameBox 3 (box_of (record { lower = lower; upper = (at records p).present.upper })) (order_box (whole records) p o)
-  same_before lower v legal is ends value = record {
-    from_same = λ d h. ends d ∙ only_axis (eqb d o.axis) (eqb p o.before) v _ _ (eq-eqb p o.before is) (λ e. value ∙ ap (λ a. int_max ((whole records).low p a) (first_shut (whole records) o)) (sym (eqb-true d o.axis e)));
-    to_same = λ d h. sym (to_stays (whole records) p o d (λ _ e. legal.two (sym is ∙ e)));
-  }
+  pub low_seen : (p : ℕ) → (room_seen s).low p o.axis ≡ lows (at s.records.now p).present o.axis
+  low_seen p = cut_below s.axes _ o.axis applies.suits.axis_in
 
-  -- and where it is the one after
-  pub same_after : (upper : List ℤ) (v : ℤ) → Legal o → p ≡ o.after → ((d : ℕ) → on_axis upper d ≡ cond (eqb d o.axis) v ((whole records).high p d)) → v ≡ int_min ((whole records).high p o.axis) (last_shut (whole records) o) → SameBox 3 (box_of (record { lower = (at records p).present.lower; upper = upper })) (order_box (whole records) p o)
-  same_after upper v legal is ends value = record {
-    from_same = λ d h. sym (from_stays (whole records) p o d (λ _ e. legal.two (sym e ∙ is)));
-    to_same = λ d h. ends d ∙ only_axis (eqb d o.axis) (eqb p o.after) v _ _ (eq-eqb p o.after is) (λ e. value ∙ ap (λ a. int_min ((whole records).high p a) (last_shut (whole records) o)) (sym (eqb-true d o.axis e)));
+  pub high_seen : (p : ℕ) → (room_seen s).high p o.axis ≡ highs (at s.records.now p).present o.axis
+  high_seen p = cut_below s.axes _ o.axis applies.suits.axis_in
+
+  -- the bounds of the piece before, cut to what is shut
+  pub span_before : (span : Span) → s.piece ≡ o.before → span.lower ≡ int_max (lows (at s.records.now s.piece).present o.axis) (first_shut (room_seen s) o) → span.upper ≡ highs (at s.records.now s.piece).present o.axis → span ≡ order_span (room_seen s) s.piece o
+  span_before span is lower upper =
+      let f = from_moved (room_seen s) s.piece o o.axis refl is in
+      let t = to_stays (room_seen s) s.piece o o.axis (λ _ e. applies.legal.two (sym is ∙ e)) in
+      same_span span _ (lower ∙ ap (λ z. int_max z (first_shut (room_seen s) o)) (sym (low_seen s.piece)) ∙ sym f) (upper ∙ sym (high_seen s.piece) ∙ sym t)
+
+  -- and those of the piece after
+  pub span_after : (span : Span) → (s.piece ≡ o.before → ⊥) → span.lower ≡ lows (at s.records.now s.piece).present o.axis → span.upper ≡ int_min (highs (at s.records.now s.piece).present o.axis) (last_shut (room_seen s) o) → span ≡ order_span (room_seen s) s.piece o
+  span_after span other lower upper =
+      let f = from_stays (room_seen s) s.piece o o.axis (λ _ e. other e) in
+      let t = to_moved (room_seen s) s.piece o o.axis refl (is_after s.piece o applies.named other) in
+      same_span span _ (lower ∙ sym (low_seen s.piece) ∙ sym f) (upper ∙ ap (λ z. int_min z (last_shut (room_seen s) o)) (sym (high_seen s.piece)) ∙ sym t)
+
+  -- the bounds with that range on the entry's axis
+  pub region_box : (region : Region) (piece : Piece) (span : Span) → piece ≡ at s.records.now s.piece → span ≡ order_span (room_seen s) s.piece o → ((d : ℕ) → span_at region d ≡ cond (eqb d o.axis) span (span_at piece.present d)) → SameBox s.axes (box_of region) (order_box (room_seen s) s.piece o)
+  region_box region piece span asked moved_to spans = record {
+    from_same = λ d h.
+        ⊎_elim
+        (λ same. ap (λ x. x.lower) (spans d ∙ cond-true _ _ _ (eq-eqb d o.axis same) ∙ moved_to) ∙ ap (order_box (room_seen s) s.piece o).from (sym same))
+        (λ other.
+        ap (λ x. x.lower) (spans d ∙ cond-false _ _ _ (ne_eqb d o.axis other) ∙ ap (λ r. span_at r.present d) asked)
+        ∙ sym (cut_below s.axes (lows (at s.records.now s.piece).present) d h)
+        ∙ sym (from_stays (room_seen s) s.piece o d (λ same _. other same)))
+        (cases_eq d o.axis);
+    to_same = λ d h.
+        ⊎_elim
+        (λ same. ap (λ x. x.upper) (spans d ∙ cond-true _ _ _ (eq-eqb d o.axis same) ∙ moved_to) ∙ ap (order_box (room_seen s) s.piece o).to (sym same))
+        (λ other.
+        ap (λ x. x.upper) (spans d ∙ cond-false _ _ _ (ne_eqb d o.axis other) ∙ ap (λ r. span_at r.present d) asked)
+        ∙ sym (cut_below s.axes (highs (at s.records.now s.piece).present) d h)
+        ∙ sym (to_stays (room_seen s) s.piece o d (λ same _. other same)))
+        (cases_eq d o.axis);
   }

@@ -1,18 +1,18 @@
 -- Legal entries, and how they are grouped by the pieces that they name.
-use Rattle.std.proofs.Common.{◌≡◌, ℕ, ◌<◌, ◌≤◌, Bool, true, false, cond, ◌||◌, eqb, ltb, List, [], ◌∷◌, ◌++◌, length, get_or, take, set, pos, Some, None, Decides, filter, sym, refl, ap, ◌∙◌, ⊎_elim, arith}
-use Rattle.std.specs.List.{AllByRecursion}
-use Rattle.std.proofs.lemmas.List.Elements.{filter-append}
-use Rattle.std.proofs.ByRecursion.{All-get_or, All-push, Decides-by_and}
-use Rattle.std.proofs.lemmas.List.{append-nil, get_or-set_same, get_or-set_other, length-take}
-use Rattle.std.proofs.lemmas.Bool.{both_ways, cases_Bool, cases_eq, cond-true, cond-false, eq-eqb, eqb-true, lt-ltb, ltb-true, ne_eqb}
-use Rattle.std.proofs.lemmas.Bool.Decides.{Decides-and, Decides-eqb, Decides-ltb, Decides-not}
+use Rattle.std.proofs.Common.{◌≡◌, ℕ, ◌<◌, ◌≤◌, Bool, true, false, cond, ◌||◌, eqb, ltb, List, [], ◌∷◌, ◌++◌, length, get_or, take, pos, Some, None, Decides, filter, sym, refl, ap, ◌∙◌, ⊎_elim, arith}
+use Rattle.std.specs.List.{All}
+use Rattle.std.proofs.lemmas.List.Elements.{All-get_or, filter-append}
+use Rattle.std.proofs.lemmas.List.Folds.{list_all-append}
+use Rattle.std.proofs.lemmas.List.{append-nil, length-take}
+use Rattle.std.proofs.lemmas.Bool.{and_from, both_ways, cases_Bool, cond-true, cond-false, eqb-true, lt-ltb, ne_eqb}
+use Rattle.std.proofs.lemmas.Bool.Decides.{Decides-and, Decides-by_and, Decides-eqb, Decides-ltb, Decides-not}
 use Rattle.room.specs.Limits.{max_axes, max_pieces, max_orders, max_length}
 use Rattle.room.specs.Listed.{listed}
 use Rattle.room.specs.declared.array_vec.ArrayVec.{ArrayVec}
 use Rattle.room.specs.declared.orders.Order.{Order}
 use Rattle.room.specs.declared.refusal.Layer.TheVariants.{Rule}
 use Rattle.room.specs.declared.refusal.Refusal.{Refusal}
-use Rattle.room.specs.declared.refusal.Refusal.TheVariants.{OutOfRange, OrdersFull}
+use Rattle.room.specs.declared.refusal.Refusal.TheVariants.{OutOfRange}
 use Rattle.room.proofs.Belows.{false_from}
 use Rattle.room.proofs.Cuts.{decides_int_le}
 use Rattle.rule.specs.Refused.{unless}
@@ -33,12 +33,11 @@ decides_legal o =
       λ l. d.1 (l.before_in, (l.after_in, (l.axis_in, (l.gap_from, (l.gap_to, l.two))))),
     )
 
-pub decides_all_legal : (entries : List Order) → Decides (orders_legal entries) (AllByRecursion Legal entries)
+pub decides_all_legal : (entries : List Order) → Decides (orders_legal entries) (All Legal entries)
 decides_all_legal = Decides-by_and order_legal Legal orders_legal decides_legal refl (λ _ _. refl)
 
 pub legal_push : (entries : List Order) (o : Order) → orders_legal entries ≡ true → order_legal o ≡ true → orders_legal (entries ++ o ∷ []) ≡ true
-legal_push entries o all here =
-    (decides_all_legal (entries ++ o ∷ [])).1 (All-push Legal entries o ((decides_all_legal entries).0 all) ((decides_legal o).0 here))
+legal_push entries o all here = list_all-append order_legal entries (o ∷ []) ∙ and_from _ _ all (and_from _ _ here refl)
 
 -- no more entries name a piece than there are
 naming_few : (p : ℕ) (entries : List Order) → length (naming_of p entries) ≤ length entries
@@ -50,23 +49,6 @@ naming_few p (o ∷ os) =
 -- while there is room for one more entry, there is under each piece
 pub grouped_room : (naming : List (ArrayVec Order 32)) (entries : List Order) (p : ℕ) → Grouped naming entries → p < max_pieces → length entries < max_orders → length (listed (get_or naming p no_orders)) < max_orders
 grouped_room naming entries p grouped known room = omega (arith, ap length (grouped p known), naming_few p entries)
-
--- a list with room takes an entry
-pub pushed : (e v : ArrayVec Order 32) (o : Order) (r : Bool) → length (listed e) < max_orders → r ≡ ltb (length (listed e)) max_orders → listed v ≡ cond r (listed e ++ o ∷ []) (listed e) → listed v ≡ listed e ++ o ∷ []
-pushed e v o r room fits items = items ∙ cond-true _ _ _ (fits ∙ lt-ltb _ _ room)
-
--- to set a piece's list to one with the entry at its end files the entry
-pub filed_set : (naming : List (ArrayVec Order 32)) (piece : ℕ) (o : Order) (v : ArrayVec Order 32) → piece < length naming → listed v ≡ listed (get_or naming piece no_orders) ++ o ∷ [] → Filed piece o naming (set naming piece v)
-filed_set naming piece o v known grown p =
-    ⊎_elim
-    (λ same.
-    ap (λ q. listed (get_or (set naming piece v) q no_orders)) same
-    ∙ ap (λ a. listed a) (get_or-set_same naming piece v no_orders known)
-    ∙ grown
-    ∙ ap (λ q. listed (get_or naming q no_orders) ++ o ∷ []) (sym same)
-    ∙ sym (cond-true _ _ _ (eq-eqb p piece same)))
-    (λ other. ap (λ a. listed a) (get_or-set_other naming piece p v no_orders other) ∙ sym (cond-false _ _ _ (ne_eqb p piece other)))
-    (cases_eq p piece)
 
 -- the list of another piece stays, so there is as much room in it
 pub filed_room : (old new : List (ArrayVec Order 32)) (piece p : ℕ) (o : Order) → Filed piece o old new → (p ≡ piece → ⊥) → length (listed (get_or old p no_orders)) < max_orders → length (listed (get_or new p no_orders)) < max_orders
@@ -85,18 +67,6 @@ grouped_push first second third entries more o legal grouped grown one two p kno
     grows (eqb p o.before) (eqb p o.after) (λ b a. legal.two (sym (eqb-true p o.before b) ∙ eqb-true p o.after a)) o _ _ _ (one p) (two p)
     ∙ ap (λ l. l ++ naming_of p (o ∷ [])) (grouped p known)
     ∙ sym (ap (naming_of p) grown ∙ filter-append (names p) entries (o ∷ []))
-
--- an entry that is not refused is legal, and there is room for it
-pub not_refused : (entries : List Order) (o : Order) → add_refusal entries o ≡ None → (order_legal o ≡ true) × (length entries < max_orders)
-not_refused entries o none =
-    ⊎_elim
-    (λ legal.
-    ⊎_elim
-    (λ room. (legal, ltb-true _ _ room))
-    (λ full. let z : ◌≡◌ {A = ℕ} 0 1 = let e = cond-true _ (unless (ltb (length entries) max_orders) OrdersFull None) (Some (OutOfRange Rule)) legal in let f = cond-false _ None (Some OrdersFull) full in cc in absurd (omega arith))
-    (cases_Bool (ltb (length entries) max_orders)))
-    (λ illegal. let z : ◌≡◌ {A = ℕ} 0 1 = let e = cond-false _ (unless (ltb (length entries) max_orders) OrdersFull None) (Some (OutOfRange Rule)) illegal in cc in absurd (omega arith))
-    (cases_Bool (order_legal o))
 
 -- of a list that may be held, only an entry that is not legal is refused, and then the list is
 pub refused_all : (orders : List Order) (i : ℕ) (e : Refusal) (entries : List Order) → i < length orders → length orders ≤ max_orders → entries ≡ take i orders → add_refusal entries (get_or orders i no_order) ≡ Some e → all_refusal orders ≡ Some e

@@ -1,5 +1,6 @@
 -- Entries that are legal and suit a board, and entries by the pieces that they name.
-use Rattle.std.specs.Prelude.{◌≡◌, ℕ, ◌<◌, Bool, true, cond, ◌&&◌, ◌||◌, List, [], ◌∷◌, ◌++◌, pos, ◌≤ℤ◌, None, filter, Option, ◌==◌, slice_index_or}
+use Rattle.std.specs.Prelude.{◌≡◌, ℕ, ◌<◌, Bool, cond, ◌||◌, List, [], ◌∷◌, ◌++◌, pos, ◌≤ℤ◌, None, filter, Option, ◌==◌, slice_index_or}
+use Rattle.std.specs.List.{list_all}
 use Rattle.room.specs.Limits.{max_axes, max_length, max_pieces}
 use Rattle.room.specs.Listed.{listed}
 use Rattle.room.specs.declared.array_vec.ArrayVec.{ArrayVec}
@@ -35,8 +36,7 @@ naming_of p entries = filter (names p) entries
 
 -- every entry may be added
 abbrev pub orders_legal : List Order → Bool
-orders_legal [] = true
-orders_legal (o ∷ os) = order_legal o && orders_legal os
+orders_legal entries = list_all order_legal entries
 
 abbrev pub no_orders : ArrayVec Order 32
 no_orders = record { len = 0; slots = [] }

@@ -1,5 +1,6 @@
 -- What orders between pieces shut.
-use Rattle.std.specs.Prelude.{◌≡◌, ℕ, ◌<◌, Bool, true, false, not, ◌&&◌, ◌||◌, List, [], ◌∷◌, length, ℤ, pos, ◌+ℤ◌, ◌≤ℤ◌, None, Option, ◌==◌, int_le, int_lt, nat_lt, slice_index_or}
+use Rattle.std.specs.Prelude.{◌≡◌, ℕ, ◌<◌, Bool, true, not, ◌&&◌, ◌||◌, List, length, ℤ, pos, ◌+ℤ◌, ◌≤ℤ◌, None, Option, ◌==◌, int_le, int_lt, nat_lt, slice_index_or}
+use Rattle.std.specs.List.{list_all, list_any}
 use Rattle.room.specs.Limits.{max_axes, max_pieces, max_orders, max_length}
 use Rattle.room.specs.Seen.{Room, Point}
 use Rattle.room.specs.declared.orders.Order.{Order}
@@ -28,8 +29,7 @@ abbrev pub order_suits : ℕ → ℕ → Order → Bool
 order_suits k n o = nat_lt o.before n && (nat_lt o.after n && nat_lt o.axis k)
 
 abbrev pub orders_suit : List Order → ℕ → ℕ → Bool
-orders_suit [] k n = true
-orders_suit (o ∷ os) k n = order_suits k n o && orders_suit os k n
+orders_suit entries k n = list_all (order_suits k n) entries
 
 -- where the piece before ends, with the gap, if it stands at this origin
 abbrev pub reach : Room → Order → ℤ → ℤ
@@ -44,8 +44,7 @@ order_shuts k r p x o =
     || (p == o.after && int_lt (x o.axis) (reach r o (r.low o.before o.axis))))
 
 unfoldable pub orders_shut : List Order → ℕ → Room → ℕ → Point → Bool
-orders_shut [] k r p x = false
-orders_shut (o ∷ os) k r p x = order_shuts k r p x o || orders_shut os k r p x
+orders_shut entries k r p x = list_any (order_shuts k r p x) entries
 
 abbrev pub no_order : Order
 no_order = record { before = 0; after = 0; axis = 0; gap = pos 0 }

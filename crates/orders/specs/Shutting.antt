@@ -1,12 +1,12 @@
 -- What it means that entries shut a point: some entry does. From it, the law of rules, and which placements keep the rule.
 use Rattle.std.specs.Prelude.{◌≡◌, ℕ, ◌<◌, true, ◌⊎◌, List, length, get_or, ℤ, ◌<ℤ◌, Decides, int_lt, slice_index_or, refl}
 use Rattle.std.proofs.Common.{inl, inr, ap, subst, arith}
-use Rattle.std.specs.List.{HoldsAt, AllByRecursion}
-use Rattle.std.proofs.ByRecursion.{All-get_or, Decides-by_and}
+use Rattle.std.specs.List.{All, HoldsAt}
+use Rattle.std.proofs.lemmas.List.Elements.{All-get_or}
 use Rattle.std.proofs.lemmas.List.{get_or_default}
 use Rattle.std.proofs.lemmas.Int.{ints, by_lt_z}
 use Rattle.std.proofs.lemmas.Bool.{both_ways}
-use Rattle.std.proofs.lemmas.Bool.Decides.{Decides-and, Decides-or, Decides-eqb, Decides-ltb, Decides-by_or}
+use Rattle.std.proofs.lemmas.Bool.Decides.{Decides-and, Decides-by_and, Decides-or, Decides-eqb, Decides-ltb, Decides-by_or}
 use Rattle.room.specs.Seen.{Room, Point, Inside}
 use Rattle.room.specs.declared.orders.Order.{Order}
 use Rattle.room.proofs.Belows.{false_from}
@@ -20,7 +20,7 @@ decides_suits k n o =
     (λ e. let (b, (a, x)) = d.0 e in record { before_in = b; after_in = a; axis_in = x }, λ s. d.1 (s.before_in, (s.after_in, s.axis_in)))
 
 -- each entry suits where all do
-pub suits_at : (entries : List Order) (k n : ℕ) → orders_suit entries k n ≡ true → AllByRecursion (Suits k n) entries
+pub suits_at : (entries : List Order) (k n : ℕ) → orders_suit entries k n ≡ true → All (Suits k n) entries
 suits_at entries k n e = (Decides-by_and (order_suits k n) (Suits k n) (λ os. orders_suit os k n) (decides_suits k n) refl (λ _ _. refl) entries).0 e
 
 decides_int_lt : (a b : ℤ) → Decides (int_lt a b) (a <ℤ b)

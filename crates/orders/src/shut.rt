@@ -1,66 +1,63 @@
 //! The box of points that one entry shuts.
 
-ghost use Rattle.std.specs.Prelude.{◌≡◌, ℕ, ◌<◌, true, length, if◌then◌else◌, nat_eq};
-ghost use Rattle.room.specs.Seen.{box_of, on_axis};
+ghost use Rattle.std.specs.Prelude.{◌≡◌};
+ghost use Rattle.room.specs.Seen.{box_of};
 ghost use Rattle.rule.specs.Means.{SameBox};
-ghost use Rattle.orders.specs.Boxes.{Applies, first_shut, last_shut, order_box, whole};
-ghost use Rattle.orders.specs.Named.{names};
+ghost use Rattle.rule.specs.Subjects.{room_seen};
+ghost use Rattle.orders.specs.Boxes.{Applies, first_shut, last_shut, order_box, order_span};
 
-use room::limits::MAX_AXES;
 use room::orders::Order;
-use room::piece::{Ends, Piece};
 use room::region::Region;
+use room::span::Span;
+use rule::subject::Subject;
 
-/// The least origin of the piece before that is shut: there it reaches past the upper end of the other.
-fn first_shut(records: &[Piece], entry: &Order) -> i32
-    requires { Applies records.now entry.now }
-    ensures { result ≡ first_shut (whole records.now) entry.now }
-{
-    let axis = entry.axis;
-    let length = records[entry.before].lengths[axis];
-    records[entry.after].present.upper[axis] - length - entry.gap + 1
+/// An entry that names the piece asked about, on a board that has its two pieces and its axis.
+#[derive(Clone, Copy)]
+pub struct Applied<'a> {
+    pub subject: Subject<'a>,
+    pub entry: &'a Order,
+    pub ghost applies: { Applies subject entry.now },
 }
 
-/// The greatest origin of the piece after that is shut: the other's lower end reaches past it.
-fn last_shut(records: &[Piece], entry: &Order) -> i32
-    requires { Applies records.now entry.now }
-    ensures { result ≡ last_shut (whole records.now) entry.now }
-{
-    let axis = entry.axis;
-    let before = &records[entry.before];
-    before.present.lower[axis] + before.lengths[axis] + entry.gap - 1
-}
+impl<'a> Applied<'a> {
+    /// The least origin of the piece before that is shut: there it reaches past the upper end of the other.
+    fn first_shut(&self) -> i32
+        ensures { result ≡ first_shut (room_seen self.now.subject) self.now.entry.now }
+    {
+        let axis = self.entry.axis;
+        let before = &self.subject.records[self.entry.before];
+        let after = &self.subject.records[self.entry.after];
+        after.present.spans[axis].upper - before.lengths[axis] - self.entry.gap + 1
+    }
 
-/// The ends, with another one on an axis.
-fn with_end(mut ends: [i32; MAX_AXES], axis: usize, end: i32) -> [i32; MAX_AXES]
-    requires { axis < 3 }
-    ensures { (d : ℕ) → on_axis result d ≡ (if nat_eq d axis then end else on_axis ends d) }
-{
-    ends[axis] = end;
-    ends
-}
+    /// The greatest origin of the piece after that is shut: the other's lower end reaches past it.
+    fn last_shut(&self) -> i32
+        ensures { result ≡ last_shut (room_seen self.now.subject) self.now.entry.now }
+    {
+        let axis = self.entry.axis;
+        let before = &self.subject.records[self.entry.before];
+        before.present.spans[axis].lower + before.lengths[axis] + self.entry.gap - 1
+    }
 
-/// The points within the bounds of a piece that an entry which names it shuts: its bounds, with one end moved on the
-/// entry's axis. There the lower end is above the upper where no point is shut.
-pub fn shut_box(records: &[Piece], piece: usize, entry: &Order) -> Region
-    requires applies { Applies records.now entry.now }
-    requires known { piece < length records.now }
-    requires named { names piece entry.now ≡ true }
-    ensures { SameBox 3 (box_of result) (order_box (whole records.now) piece entry.now) }
-{
-    let axis = entry.axis;
-    let Ends { lower, upper } = records[piece].present;
-    if piece == entry.before {
-        let first = lower[axis].max(first_shut(records, entry));
-        Region {
-            lower: with_end(lower, axis, first),
-            upper,
+    /// The origins of the piece on the entry's axis that are shut, within its bounds: one end of these is moved. The lower
+    /// end is above the upper where no origin is shut.
+    pub fn span(&self) -> Span
+        ensures { result ≡ order_span (room_seen self.now.subject) self.now.subject.piece self.now.entry.now }
+    {
+        let mut span = self.subject.record().present.spans[self.entry.axis];
+        if self.subject.piece == self.entry.before {
+            span.lower = span.lower.max(self.first_shut());
+        } else {
+            span.upper = span.upper.min(self.last_shut());
         }
-    } else {
-        let last = upper[axis].min(last_shut(records, entry));
-        Region {
-            lower,
-            upper: with_end(upper, axis, last),
-        }
+        span
+    }
+
+    /// The points within the bounds of the piece that the entry shuts.
+    pub fn region(&self) -> Region
+        ensures { SameBox self.now.subject.axes (box_of result) (order_box (room_seen self.now.subject) self.now.subject.piece self.now.entry.now) }
+    {
+        let bounds = &self.subject.record().present;
+        bounds.with_span(self.entry.axis, self.span())
     }
 }

@@ -7,6 +7,10 @@ use Rattle.room.specs.declared.span.Span.{Span}
 abbrev pub span_holds : Span → ℤ → Bool
 span_holds s x = int_le s.lower x && int_le x s.upper
 
+-- some origin lies in it
+abbrev pub span_holds_any : Span → Bool
+span_holds_any s = int_le s.lower s.upper
+
 -- a range, some origin lies in it, that lies inside another
 abbrev pub span_inside : Span → Span → Bool
 span_inside s outer = int_le outer.lower s.lower && int_le s.lower s.upper && int_le s.upper outer.upper

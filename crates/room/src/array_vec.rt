@@ -1,6 +1,6 @@
 //! A list in memory of a fixed size, for what a room holds: no allocator is asked, so nothing runs out.
 
-ghost use Rattle.std.specs.Prelude.{◌≡◌, ◌≤◌, [], ◌∷◌, ◌++◌, length, if◌then◌else◌, nat_lt, is_ok, IfErr};
+ghost use Rattle.std.specs.Prelude.{◌≡◌, ◌≤◌, [], ◌∷◌, ◌++◌, length, if◌then◌else◌, nat_lt, is_ok, IfErr, OnErr};
 ghost use Rattle.room.specs.Listed.{listed};
 
 /// A list with room for N items.
@@ -41,6 +41,7 @@ impl<T: Copy, const N: usize> ArrayVec<T, N> {
         ensures fits { is_ok result ≡ nat_lt (length (listed self.old)) N }
         ensures items { listed self.new ≡ (if is_ok result then listed self.old ++ item ∷ [] else listed self.old) }
         ensures back { IfErr result (λ x. x ≡ item) }
+        ensures unchanged { OnErr result (self.new ≡ self.old) }
     {
         let at = self.len();
         if at >= N {

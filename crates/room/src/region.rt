@@ -1,8 +1,8 @@
 //! Boxes of origins: the bounds of pieces, and what rules answer.
 
-ghost use Rattle.std.specs.Prelude.{◌≡◌, Decides};
+ghost use Rattle.std.specs.Prelude.{◌≡◌, ℕ, ◌<◌, Decides, if◌then◌else◌, nat_eq};
 ghost use Rattle.room.specs.Spans.{spans_hold, spans_meet};
-ghost use Rattle.room.specs.Seen.{Holds, Meets, box_of, highs, lows, point_of};
+ghost use Rattle.room.specs.Seen.{Holds, Meets, box_of, highs, lows, point_of, span_at};
 
 use crate::limits::MAX_AXES;
 use crate::point::Point;
@@ -27,6 +27,16 @@ impl Region {
         ensures { Decides result (Meets axes (box_of self.now) (lows bounds.now) (highs bounds.now)) }
     {
         self.spans_meet(axes, &bounds.spans)
+    }
+
+    /// The box with another range on an axis.
+    pub fn with_span(&self, axis: usize, span: Span) -> Region
+        requires { axis < 3 }
+        ensures { (d : ℕ) → span_at result d ≡ (if nat_eq d axis then span else span_at self.now d) }
+    {
+        let mut region = *self;
+        region.spans[axis] = span;
+        region
     }
 
     fn spans_hold(&self, axes: usize, origins: &[i32; MAX_AXES]) -> bool

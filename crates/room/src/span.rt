@@ -1,7 +1,7 @@
 //! Ranges of origins on one axis.
 
 ghost use Rattle.std.specs.Prelude.{◌≡◌};
-ghost use Rattle.room.specs.Spans.{span_holds, span_inside, span_meets};
+ghost use Rattle.room.specs.Spans.{span_holds, span_holds_any, span_inside, span_meets};
 
 /// A range from a lower to an upper end; where the lower end is above the upper, no origin lies in it.
 #[derive(Clone, Copy)]
@@ -18,6 +18,13 @@ impl Span {
         self.lower <= origin && origin <= self.upper
     }
 
+    /// Whether some origin lies in the range.
+    pub fn holds_any(&self) -> bool
+        ensures { result ≡ span_holds_any self.now }
+    {
+        self.lower <= self.upper
+    }
+
     /// Whether it is a range, some origin lies in it, that lies inside another.
     pub fn is_inside(&self, outer: &Span) -> bool
         ensures { result ≡ span_inside self.now outer.now }
@@ -29,6 +36,6 @@ impl Span {
     pub fn meets(&self, other: &Span) -> bool
         ensures { result ≡ span_meets self.now other.now }
     {
-        self.lower <= self.upper && self.lower <= other.upper && other.lower <= self.upper
+        self.holds_any() && self.lower <= other.upper && other.lower <= self.upper
     }
 }

@@ -1,7 +1,10 @@
 -- Boxes with the same ends, and boxes that are given under a test.
-use Rattle.std.proofs.Common.{◌≡◌, ℕ, ◌≤◌, Bool, true, false, cond, ℤ, Some, None, sym, refl, ◌∙◌, arith}
+use Rattle.std.proofs.Common.{◌≡◌, ℕ, ◌≤◌, Bool, true, false, cond, ℤ, Some, None, Option, sym, refl, ◌∙◌, subst, arith}
+use Rattle.std.specs.Bool.{then_some}
 use Rattle.std.proofs.lemmas.Int.{ints}
-use Rattle.room.specs.Seen.{Room, Point, Box, Holds, Meets}
+use Rattle.room.specs.Seen.{Room, Point, Box, Holds, Meets, box_of}
+use Rattle.room.specs.declared.region.Region.{Region}
+use Rattle.rule.specs.Gathered.{Shows}
 use Rattle.rule.specs.Means.{Covers, EndsFit, SameBox}
 
 pub same_back : {k : ℕ} {b c : Box} → SameBox k b c → SameBox k c b
@@ -46,3 +49,8 @@ same_covers {x} same covers = record {
 pub given_some : {A : Type 0} (test : Bool) (x y : A) → cond test (Some x) None ≡ Some y → (test ≡ true) × (x ≡ y)
 given_some true x y e = (refl, cc)
 given_some false x y e = let z : ◌≡◌ {A = ℕ} 0 1 = cc in absurd (omega arith)
+
+-- a region that is given under a test shows the box that is given under it
+pub shows_given : (k : ℕ) (test : Bool) (b : Box) (region : Region) (answer : Option Region) → answer ≡ then_some test region → SameBox k (box_of region) b → Shows k (cond test (Some b) None) answer
+shows_given k true b region answer is same = subst (Shows k (Some b)) (sym is) (b, refl, same)
+shows_given k false b region answer is same = subst (Shows k None) (sym is) refl

@@ -9,7 +9,7 @@ ghost use Rattle.orders.specs.Ordered.{OrdersKept, add_refusal, order_legal};
 
 use crate::held::OrderRule;
 use room::array_vec::ArrayVec;
-use room::limits::{MAX_AXES, MAX_LENGTH, MAX_ORDERS, MAX_PIECES};
+use room::limits::{MAX_AXES, MAX_LENGTH, MAX_PIECES};
 use room::orders::{NO_ORDER, Order, Orders};
 use room::refusal::{Layer, Refusal};
 
@@ -25,26 +25,13 @@ fn is_legal(order: &Order) -> bool
         && order.before != order.after
 }
 
-/// Why the order is not added to the entries: what it says itself is looked at first, then whether there is room.
-fn refusal_of(entries: &Orders, order: &Order) -> Option<Refusal>
-    ensures { result ≡ add_refusal (listed entries.now) order.now }
-{
-    if !is_legal(order) {
-        return Some(Refusal::OutOfRange { layer: Layer::Rule });
-    }
-    if entries.len() >= MAX_ORDERS {
-        return Some(Refusal::OrdersFull);
-    }
-    None
-}
-
 /// Puts the entry at the end of a piece's list, which has room.
 fn file(naming: &mut [Orders; MAX_PIECES], piece: usize, order: Order)
     requires known { piece < 24 }
     requires room { length (listed (slice_index_or naming.old piece no_orders)) < 32 }
     ensures { Filed piece order naming.old naming.new }
 {
-    naming[piece].push(order);
+    naming[piece].push(order).unwrap();
 }
 
 impl OrderRule {
@@ -65,10 +52,10 @@ impl OrderRule {
         ensures added { MatchResult result (λ _. (add_refusal (entries_of self.old) order ≡ None) × (entries_of self.new ≡ entries_of self.old ++ order ∷ [])) (λ e. (add_refusal (entries_of self.old) order ≡ Some e) × (self.new ≡ self.old)) }
         ensures kept { OrdersKept (entries_of self.new) }
     {
-        if let Some(refusal) = refusal_of(&self.entries, &order) {
-            return Err(refusal);
+        if !is_legal(&order) {
+            return Err(Refusal::OutOfRange { layer: Layer::Rule });
         }
-        self.entries.push(order);
+        self.entries.push(order).map_err(|_| Refusal::OrdersFull)?;
         file(&mut self.naming, order.before, order);
         file(&mut self.naming, order.after, order);
         Ok(())

@@ -1,32 +1,28 @@
-use Rattle.std.proofs.Common.{◌<◌, length, get_or, sym}
+use Rattle.std.proofs.Common.{◌≡◌, length, get_or, ap, ◌∙◌, arith}
+use lib.Signed.{le_z}
+use Rattle.std.specs.Bool.{then_some}
+use Rattle.room.specs.Spans.{span_holds_any}
+use Rattle.rule.specs.Subjects.{room_seen}
+use Rattle.rule.proofs.Boxes.{shows_given}
+use Rattle.orders.specs.Boxes.{order_box, order_span}
+use Rattle.orders.specs.Entries.{entries_of}
+use Rattle.orders.specs.Named.{naming_of}
 use Rattle.orders.specs.Ordered.{no_order}
-use Rattle.orders.proofs.Sourcing.{Serves, applies, serves_item, shows_none, shows_some, there_item}
+use Rattle.orders.proofs.Sourcing.{applies_item, item_box, same_items}
 use Rattle.orders.proofs.held.answering.OrderRuleSources.source_box.Goals as goal
-use Rattle.orders.proofs.held.answering.OrderRuleSources.source_box.Goals.{After-as_slice}
 
--- the source is an entry that names the piece
-there : (c : After-as_slice) → c.args.source < length c.as_slice.result.now
-there c = there_item c.args.self.now c.args._axes c.args.records.now c.args.piece c.requires.asked c.as_slice.result.now c.args.source c.as_slice.ensures.items c.requires.there
+pub invariant_of-applied : goal.invariant_of-applied
+invariant_of-applied c =
+    let s = c.args.subject.now in
+    let is = same_items c.args.self.now s c.requires.suits c.as_slice.result.now c.as_slice.ensures.items in
+    record { applies = applies_item c.args.self.now s c.requires.suits c.as_slice.result.now c.args.source is (omega (arith, ap length is)) }
 
-serves : (c : After-as_slice) → Serves c.args._axes (length c.args.records.now) c.args.piece (get_or c.as_slice.result.now c.args.source no_order)
-serves c = serves_item c.args.self.now c.args._axes c.args.records.now c.args.piece c.requires.asked c.as_slice.result.now c.args.source c.as_slice.ensures.items (there c)
-
-pub shut_box-region-requires : goal.shut_box-region-requires
-shut_box-region-requires c =
-    let s = serves (goal.at.shut_box-region-requires c).After-as_slice in
-    record {
-      applies = applies c.args.self.now c.args._axes c.args.records.now c.args.piece c.requires.asked (get_or c.as_slice.result.now c.args.source no_order) s;
-      known = c.requires.asked.known;
-      named = s.named;
-    }
-
-pub is_open-requires : goal.is_open-requires
-is_open-requires c = (serves (goal.at.is_open-requires c).After-as_slice).legal.axis_in
-
-pub returns-then-is_open : goal.returns-then-is_open
-returns-then-is_open c =
-    shows_some c.args.self.now c.args._axes c.args.records.now c.args.piece c.requires.asked c.as_slice.result.now c.shut_box-region.result c.args.source c.as_slice.ensures.items (there (goal.at.returns-then-is_open c).After-as_slice) c.shut_box-region.ensures (sym c.if-is_open.ensures)
-
-pub returns-else-is_open : goal.returns-else-is_open
-returns-else-is_open c =
-    shows_none c.args.self.now c.args._axes c.args.records.now c.args.piece c.requires.asked c.as_slice.result.now c.shut_box-region.result c.args.source c.as_slice.ensures.items (there (goal.at.returns-else-is_open c).After-as_slice) c.shut_box-region.ensures (sym c.if-is_open.ensures)
+pub returns : goal.returns
+returns c =
+    let s = c.args.subject.now in
+    let is = same_items c.args.self.now s c.requires.suits c.as_slice.result.now c.as_slice.ensures.items in
+    let o = get_or (naming_of s.piece (entries_of c.args.self.now)) c.args.source no_order in
+    let b = order_box (room_seen s) s.piece o in
+    let same = item_box c.args.self.now s c.requires.suits c.as_slice.result.now c.region.result c.args.source is c.region.ensures in
+    let opens : c.holds_any.result ≡ le_z (b.from o.axis) (b.to o.axis) = c.holds_any.ensures ∙ ap span_holds_any c.span.ensures ∙ ap (λ l. span_holds_any (order_span (room_seen s) s.piece (get_or l c.args.source no_order))) is in
+    shows_given s.axes _ b c.region.result c.then_some.result (c.then_some.ensures ∙ ap (λ t. then_some t c.region.result) opens) same
