@@ -1,5 +1,5 @@
 -- A pair of pieces by their records, and what the rule sees of it.
-use Rattle.std.proofs.Common.{◌≡◌, ℕ, ◌<◌, Bool, true, false, List, length, ℤ, Decides, sym, ap, ◌∙◌, subst, arith}
+use Rattle.std.proofs.Common.{◌≡◌, ℕ, ◌<◌, Bool, true, false, List, length, ℤ, Option, Decides, sym, ap, ◌∙◌, subst, arith}
 use Rattle.std.specs.Bool.{then_some}
 use Rattle.std.proofs.Math.Logic.{⊎_map}
 use Rattle.std.proofs.lemmas.Int.{ints}
@@ -89,13 +89,14 @@ module _ (s : Subject) (j : ℕ) (p : Pair) (of : PairOf s (at s.records.now j) 
           ends = ends_fit s j known;
         })
 
-    pub shown_there : (met : Bool) (asked : Piece) (region : Region) → SameBox p.axes (box_of region) (pair_box p) → asked ≡ at s.records.now s.piece → Decides met (Meets s.axes (box_of region) (lows asked.present) (highs asked.present)) → (j ≡ s.piece → ⊥) → exempt ≡ false → Shows s.axes (clash_source mode s.axes (room_seen s) s.piece j) (then_some met region)
-    shown_there met asked region same is meets other can =
+    pub shown_there : (met : Bool) (asked : Piece) (region : Region) (answer : Option Region) → SameBox p.axes (box_of region) (pair_box p) → asked ≡ at s.records.now s.piece → Decides met (Meets s.axes (box_of region) (lows asked.present) (highs asked.present)) → answer ≡ then_some met region → (j ≡ s.piece → ⊥) → exempt ≡ false → Shows s.axes (clash_source mode s.axes (room_seen s) s.piece j) answer
+    shown_there met asked region answer same is meets given other can =
         let seen = region_seen region same in
         let low = lows (at s.records.now s.piece).present in
         let high = highs (at s.records.now s.piece).present in
-        shown_if mode s.axes (room_seen s) s.piece j met region (rival_there other can) seen
+        shown_if mode s.axes (room_seen s) s.piece j met region answer (rival_there other can)
         (Decides-like met
         (λ m. meets_seen s.axes (clash_box (room_seen s) s.piece j) low high (same_meets low high seen m))
         (λ m. same_meets low high (same_back seen) (meets_known s.axes (clash_box (room_seen s) s.piece j) low high m))
         (subst (λ q. Decides met (Meets s.axes (box_of region) (lows q.present) (highs q.present))) is meets))
+        given seen

@@ -1,9 +1,9 @@
 -- The boxes of rivals: that each is a right box, and that together they are a right list.
-use Rattle.std.proofs.Common.{◌≡◌, ℕ, ◌<◌, Bool, true, false, ◌&&◌, length, Some, None, Decides, refl, subst, arith}
+use Rattle.std.proofs.Common.{◌≡◌, ℕ, ◌<◌, Bool, ◌&&◌, length, Some, None, Option, Decides, ap, ◌∙◌, subst, arith}
 use Rattle.std.specs.Bool.{then_some}
 use Rattle.std.proofs.lemmas.Int.{ints}
-use Rattle.std.proofs.lemmas.Bool.{both_ways, cond-true, cond-false}
-use Rattle.std.proofs.lemmas.Bool.Decides.{Decides-and}
+use Rattle.std.proofs.lemmas.Bool.{cond-true, cond-false}
+use Rattle.std.proofs.lemmas.Bool.Decides.{Decides-and, Decides-like, same_from_decides}
 use Rattle.room.specs.Seen.{Room, Box, Meets, box_of, meets}
 use Rattle.room.specs.declared.region.Region.{Region}
 use Rattle.room.proofs.Belows.{false_from}
@@ -13,7 +13,7 @@ use Rattle.rule.specs.Gathered.{Shows, Sound}
 use Rattle.rule.specs.Means.{EndsFit, ListsBox, SameBox, Shuts}
 use Rattle.rule.specs.Subjects.{room_seen, shut_there}
 use Rattle.rule.specs.declared.subject.Subject.{Subject}
-use Rattle.rule.proofs.Boxes.{given_some}
+use Rattle.rule.proofs.Boxes.{given_some, shows_given}
 use Rattle.overlap.specs.Clash.{clash_box, clash_source, overlap_shut, rivals}
 use Rattle.overlap.specs.Clashing.{Rivals, decides_rivals, decides_shut}
 use Rattle.overlap.specs.declared.Overlap.{Overlap}
@@ -54,9 +54,11 @@ module _ (mode : Overlap) (k : ℕ) (r : Room) (i j : ℕ) where
       (rival, met, same)
 
   -- the box of a rival is listed where it meets the bounds
-  pub shown_if : (met : Bool) (region : Region) → Rivals mode k r i j → SameBox k (box_of region) (clash_box r i j) → Decides met (Meets k (clash_box r i j) (r.low i) (r.high i)) → Shows k (clash_source mode k r i j) (then_some met region)
-  shown_if true region rival same decides = (clash_box r i j, source_some rival (decides.0 refl), same)
-  shown_if false region rival same decides = source_none (λ rival met. both_ways _ refl (decides.1 met))
+  pub shown_if : (met : Bool) (region : Region) (answer : Option Region) → Rivals mode k r i j → Decides met (Meets k (clash_box r i j) (r.low i) (r.high i)) → answer ≡ then_some met region → SameBox k (box_of region) (clash_box r i j) → Shows k (clash_source mode k r i j) answer
+  unfolding clash_source
+  shown_if met region answer rival decides is same =
+      let tests = same_from_decides met _ (Decides-like met (λ m. (rival, m)) (λ (_, m). m) decides) decides_source in
+      shows_given k _ (clash_box r i j) region answer (is ∙ ap (λ test. then_some test region) tests) same
 
 pub sound : (mode : Overlap) (s : Subject) → Sound s.axes (room_seen s) s.piece (shut_there (overlap_shut mode) s) (clash_source mode s.axes (room_seen s) s.piece) (length s.records.now)
 sound mode s =

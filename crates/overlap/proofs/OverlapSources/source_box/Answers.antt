@@ -1,7 +1,4 @@
-use Rattle.std.proofs.Common.{sym, subst}
-use Rattle.rule.specs.Gathered.{Shows}
 use Rattle.rule.specs.Subjects.{room_seen}
-use Rattle.overlap.specs.Clash.{clash_source}
 use Rattle.overlap.proofs.Paired.{not_exempt, shown_there}
 use Rattle.overlap.proofs.Rivals.{source_none}
 use Rattle.overlap.proofs.OverlapSources.source_box.Goals as goal
@@ -18,7 +15,5 @@ returns-then-is_asked c =
 
 pub returns : goal.returns
 returns c =
-    let s = c.args.subject.now in
-    subst (Shows s.axes (clash_source c.args.self.now s.axes (room_seen s) s.piece c.args.source)) (sym c.then_some.ensures)
-    (shown_there s c.args.source c.new-pair.result c.new-pair.ensures c.args.self.now _ c.exempts.ensures _ c.record.result.now c.region-region.result
-    c.region-region.ensures c.record.ensures c.meets.ensures c.if-is_asked.false c.if-exempts.false)
+    shown_there c.args.subject.now c.args.source c.new-pair.result c.new-pair.ensures c.args.self.now _ c.exempts.ensures _ c.record.result.now c.region-region.result _
+    c.region-region.ensures c.record.ensures c.meets.ensures c.then_some.ensures c.if-is_asked.false c.if-exempts.false
