@@ -40,16 +40,11 @@ fn refusal(fault: Fault, line: usize) -> Refusal
 fn take_line(text: &[u8], number: usize) -> Result<Taken<'_>, Refusal>
     ensures { Walked (line_text number (lines text.now)) (drop 1 (lines text.now)) (λ t. t.body.now) (λ t. lines t.rest.now) result }
 {
-    let Some(line) = split_line(text) else {
-        return Err(Refusal::LineMissing { line: number });
-    };
-    if !line.ended || !is_readable(line.bytes) {
-        return Err(Refusal::LineUnreadable { line: number });
+    match split_line(text) {
+        None => Err(Refusal::LineMissing { line: number }),
+        Some((body, Some(rest))) if is_readable(body) => Ok(Taken { body, rest }),
+        Some(_) => Err(Refusal::LineUnreadable { line: number }),
     }
-    Ok(Taken {
-        body: line.bytes,
-        rest: line.rest,
-    })
 }
 
 /// Reads the next line, which has this number and is of this form.
