@@ -58,15 +58,15 @@ impl<'a> Lines<'a> {
         ensures left { OnOk result (self.new ≡ after 1 self.old) }
     {
         let line = self.number;
-        let Some(first) = split_line(self.rest) else {
-            return Err(Refusal::LineMissing { line });
-        };
-        if !first.ended || !is_readable(first.bytes) {
-            return Err(Refusal::LineUnreadable { line });
+        match split_line(self.rest) {
+            None => Err(Refusal::LineMissing { line }),
+            Some((body, Some(rest))) if is_readable(body) => {
+                self.rest = rest;
+                self.number += 1;
+                Ok(body)
+            }
+            Some(_) => Err(Refusal::LineUnreadable { line }),
         }
-        self.rest = first.rest;
-        self.number += 1;
-        Ok(first.bytes)
     }
 
     /// Reads the next line, which is of this form.
