@@ -1,7 +1,7 @@
-use Rattle.std.proofs.Common.{◌≡◌, ◌+◌, ◌-◌, suc, true, [], ◌∷◌, ◌++◌, ◌∙◌, arith}
+use Rattle.std.proofs.Common.{◌≡◌, ◌+◌, ◌-◌, suc, true, nat_lt, map, length, arith}
 use Rattle.std.proofs.lemmas.List.{map_push, length_push, append-nil}
 use Rattle.std.proofs.lemmas.Result.{err_from_is_err_and}
-use Rattle.std.proofs.lemmas.Bool.{cond-true, lt-ltb}
+use Rattle.std.proofs.lemmas.Bool.{lt-ltb}
 use Rattle.room.specs.Listed.{listed}
 use Rattle.sheet.proofs.Saying.{put_on_more}
 use Rattle.sheet.proofs.Walking.{after_after}
@@ -16,12 +16,12 @@ returns-in_err-read-clause-say g c =
 pub loop-preserved : goal.loop-preserved
 loop-preserved g c =
     let more : c.args.count - c.loop.counter ≡ suc (c.args.count - (c.loop.counter + 1)) = omega arith in
-    let fits : c.push.result ≡ true = c.push.ensures.fits ∙ lt-ltb _ _ (omega (arith, c.loop.invariant.items)) in
-    let items : listed c.push.new.self ≡ listed c.loop.items ++ (c.in_ok-read.field-0 ∷ []) = c.push.ensures.items ∙ cond-true _ _ _ fits in
+    let room : nat_lt (length (listed c.loop.items)) g.row.N ≡ true = lt-ltb _ _ (omega (arith, c.loop.invariant.items)) in
+    let items = rw (c.push.ensures.fits, room) at c.push.ensures.items in
     record {
       items = rw (items, length_push, c.loop.invariant.items);
-      left = rw (c.in_ok-read.ensures.left, c.loop.invariant.left, after_after);
-      all = rw (items, map_push, c.in_ok-read.ensures.left, ← c.loop.invariant.all, more, ← c.in_ok-read.ensures.says) (put_on_more _ _ _);
+      left = rw (c.in_ok-read.ensures.left, c.loop.invariant.left, after_after 1 c.loop.counter c.args.self.now);
+      all = rw (items, map_push, c.in_ok-read.ensures.left, ← c.loop.invariant.all, more, ← c.in_ok-read.ensures.says) (put_on_more (map g.L.LineForm.denotes (listed c.loop.items)) (g.L.LineForm.denotes c.in_ok-read.field-0) _);
     }
 
 pub returns-clause-say : goal.returns-clause-say
