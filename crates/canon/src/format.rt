@@ -1,7 +1,6 @@
 //! Formatting a sheet.
 
 ghost use Rattle.std.specs.Prelude.{◌≡◌, IfOk, Ok, string_bytes};
-ghost use Rattle.sheet.specs.Fits.{Fits};
 ghost use Rattle.sheet.specs.Held.{plan_of};
 ghost use Rattle.sheet.specs.Meaning.{meaning};
 ghost use Rattle.answer.specs.Answers.{Gives, printed};
@@ -18,8 +17,8 @@ use std::fmt;
 /// The canonical text of a sheet; it fails only for want of memory.
 pub fn write_sheet(heap: Global, sheet: &Sheet) -> Result<String, fmt::Error>
     ensures text { IfOk result (λ t. string_bytes t ≡ canonical (plan_of sheet.now)) }
-    ensures back { Fits (plan_of sheet.now) → IfOk result (λ t. meaning (string_bytes t) ≡ Ok (plan_of sheet.now)) }
-    ensures limits { Fits (plan_of sheet.now) → IfOk result (λ t. KeepsLimits (string_bytes t)) }
+    ensures back { IfOk result (λ t. meaning (string_bytes t) ≡ Ok (plan_of sheet.now)) }
+    ensures limits { IfOk result (λ t. KeepsLimits (string_bytes t)) }
 {
     let mut out = String::new(heap);
     sheet.contents().put(&mut out)?;

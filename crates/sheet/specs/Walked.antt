@@ -1,8 +1,16 @@
--- A walk over lines: what was read, and the lines that are left.
-use Rattle.std.specs.Prelude.{◌≡◌, List, Ok, Err, Result, MatchResult}
-use Rattle.room.specs.declared.refusal.Refusal.{Refusal}
-use Rattle.text.specs.Lines.{Line}
+-- A walk over the lines of a text.
+use Rattle.std.specs.Prelude.{ℕ, ◌+◌, List, drop}
+use Rattle.text.specs.Lines.{Line, lines}
 
--- a result has the outcome: its value, with these lines left, or its refusal
-abbrev pub Walked : {A T : Type 0} → Result A Refusal → List Line → (T → A) → (T → List Line) → Result T Refusal → Type 0
-Walked outcome left value rest r = MatchResult r (λ t. (outcome ≡ Ok (value t)) × (rest t ≡ left)) (λ e. outcome ≡ Err e)
+-- the lines that are left, and the number of the first of them
+pub record LinesLeft : Type 0 where
+  pub number : ℕ
+  pub left : List Line
+
+-- before the walk, all of them
+abbrev pub all_lines : List ℕ → LinesLeft
+all_lines text = record { number = 1; left = lines text }
+
+-- once n of them are taken
+abbrev pub after : ℕ → LinesLeft → LinesLeft
+after n l = record { number = l.number + n; left = drop n l.left }

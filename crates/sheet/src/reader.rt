@@ -1,18 +1,15 @@
 //! Reading a sheet.
 
-ghost use Rattle.std.specs.Prelude.{◌≡◌, ◌+◌, map, drop, IfOk, Ok, Err};
+ghost use Rattle.std.specs.Prelude.{◌≡◌, map};
+ghost use Rattle.std.proofs.Props.{props};
 ghost use Rattle.room.specs.Listed.{listed, rows_of};
-ghost use Rattle.text.specs.Lines.{lines};
-ghost use Rattle.forms.specs.Forms.{says_contents};
 ghost use Rattle.forms.specs.Outcome.{map_ok};
-ghost use Rattle.forms.specs.Within.{Within};
 ghost use Rattle.sheet.specs.Fits.{Fits};
-ghost use Rattle.sheet.specs.Held.{plan_of};
+ghost use Rattle.sheet.specs.Parts.{plan_held};
 ghost use Rattle.sheet.specs.Plan.{contents_of};
-ghost use Rattle.sheet.specs.Walked.{Walked};
-ghost use Rattle.sheet.specs.Meaning.{meaning, line_says, bodies as bodies_say};
+ghost use Rattle.sheet.specs.Meaning.{meaning};
 
-use crate::walk::{ReadLine, read_each, read_line};
+use crate::walk::Lines;
 use forms::before::BeforeLine;
 use forms::contents::{Contents, ContentsLine, Mode};
 use forms::piece::{Extents, PieceLine};
@@ -35,75 +32,38 @@ pub struct Sheet {
     pieces: ArrayVec<Extents, MAX_PIECES>,
     orders: Orders,
     walls: WallMap,
-}
-
-/// Reads the first line.
-fn read_contents(text: &[u8]) -> Result<ReadLine<'_, Contents>, Refusal>
-    ensures walked { Walked (line_says says_contents 1 (lines text.now)) (drop 1 (lines text.now)) (λ l. l.item) (λ l. lines l.rest.now) result }
-    ensures within { IfOk result (λ l. Within l.item) }
-{
-    read_line(&ContentsLine {}, text, 1)
-}
-
-/// Reads the lines after the first: the pieces, the orders, the wall rows, and nothing more.
-fn read_bodies(contents: &Contents, text: &[u8]) -> Result<Sheet, Refusal>
-    requires { Within contents.now }
-    ensures { map_ok plan_of result ≡ bodies_say contents.now (lines text.now) }
-{
-    let Contents {
-        axes,
-        mode,
-        pieces,
-        orders,
-        rows,
-    } = *contents;
-    let read = read_each(
-        &PieceLine { axes },
-        ArrayVec::new(NO_EXTENT),
-        text,
-        2,
-        pieces,
-    )?;
-    let ordered = read_each(
-        &BeforeLine { axes, pieces },
-        NO_ORDER,
-        read.rest,
-        2 + pieces,
-        orders,
-    )?;
-    let walled = read_each(
-        &WallLine {},
-        ArrayVec::new(Cell::Open),
-        ordered.rest,
-        2 + pieces + orders,
-        rows,
-    )?;
-    let left_over = walled.rest.len() > 0;
-    if left_over {
-        return Err(Refusal::LineLeftOver {
-            line: 2 + pieces + orders + rows,
-        });
-    }
-    Ok(Sheet {
-        axes,
-        mode,
-        pieces: read.items,
-        orders: ordered.items,
-        walls: walled.items,
-    })
+    pub ghost fits: { Fits (plan_held axes mode pieces orders walls) } by { Prim.hlevel props },
 }
 
 impl Sheet {
+    ghost use Rattle.sheet.specs.Held.{plan_of};
+
     /// What a text says as a sheet, or the first thing that is wrong with it.
     pub fn read(text: &[u8]) -> Result<Sheet, Refusal>
         ensures says { map_ok plan_of result ≡ meaning text.now }
-        ensures fits { IfOk result (λ s. Fits (plan_of s)) }
     {
         if text.len() > MAX_SHEET {
             return Err(Refusal::SheetTooLong);
         }
-        let first = read_contents(text)?;
-        read_bodies(&first.item, first.rest)
+        let mut lines = Lines::of(text);
+        let Contents {
+            axes,
+            mode,
+            pieces,
+            orders,
+            rows,
+        } = lines.read(&ContentsLine {})?;
+        let extents = lines.read_each(&PieceLine { axes }, ArrayVec::new(NO_EXTENT), pieces)?;
+        let orders = lines.read_each(&BeforeLine { axes, pieces }, NO_ORDER, orders)?;
+        let walls = lines.read_each(&WallLine {}, ArrayVec::new(Cell::Open), rows)?;
+        lines.end()?;
+        Ok(Sheet {
+            axes,
+            mode,
+            pieces: extents,
+            orders,
+            walls,
+        })
     }
 
     /// The pieces, each with its extent on each axis.

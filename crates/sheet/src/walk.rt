@@ -1,30 +1,19 @@
-//! A walk over the lines of a sheet: one line, or as many of one kind as were announced.
+//! A walk over the lines of a text: one line, or as many of one kind as were announced.
 
-ghost use Rattle.std.specs.Prelude.{◌≡◌, ◌+◌, ◌^◌, ◌<◌, ◌≤◌, map, drop};
+ghost use Rattle.std.specs.Prelude.{◌≡◌, ◌+◌, ◌^◌, ◌<◌, ◌≤◌, map, length, OnOk};
 ghost use Rattle.room.specs.Listed.{listed};
 ghost use Rattle.text.specs.Lines.{lines};
-ghost use Rattle.sheet.specs.Walked.{Walked};
-ghost use Rattle.sheet.specs.Meaning.{line_text, line_says, each_says, refusal_at};
+ghost use Rattle.forms.specs.Outcome.{map_ok};
+ghost use Rattle.sheet.specs.Meaning.{line_text, line_says, each_says, max_sheet, no_more, refusal_at};
+ghost use Rattle.sheet.specs.Plan.{Plan};
+ghost use Rattle.sheet.specs.Walked.{LinesLeft, all_lines, after};
 
 use forms::fault::Fault;
 use forms::form::LineForm;
 use room::array_vec::ArrayVec;
 use room::refusal::Refusal;
+use std::marker::Model;
 use text::lines::{is_readable, split_line};
-
-/// The text of a line, and what follows the line.
-#[derive(Clone, Copy)]
-pub struct Taken<'a> {
-    body: &'a [u8],
-    rest: &'a [u8],
-}
-
-/// What a line says, and what follows the line.
-#[derive(Clone, Copy)]
-pub struct ReadLine<'a, T> {
-    pub item: T,
-    pub rest: &'a [u8],
-}
 
 /// A fault in a line, told with the line's number.
 fn refusal(fault: Fault, line: usize) -> Refusal
@@ -36,65 +25,85 @@ fn refusal(fault: Fault, line: usize) -> Refusal
     }
 }
 
-/// Takes the next line, which has this number.
-fn take_line(text: &[u8], number: usize) -> Result<Taken<'_>, Refusal>
-    ensures { Walked (line_text number (lines text.now)) (drop 1 (lines text.now)) (λ t. t.body.now) (λ t. lines t.rest.now) result }
-{
-    let Some(line) = split_line(text) else {
-        return Err(Refusal::LineMissing { line: number });
-    };
-    if !line.ended || !is_readable(line.bytes) {
-        return Err(Refusal::LineUnreadable { line: number });
-    }
-    Ok(Taken {
-        body: line.bytes,
-        rest: line.rest,
-    })
-}
-
-/// Reads the next line, which has this number and is of this form.
-pub fn read_line<'a, L: LineForm>(
-    form: &L,
-    text: &'a [u8],
+/// The lines of a text that are left, and the number of the first of them.
+#[derive(Drop)]
+pub struct Lines<'a> {
+    rest: &'a [u8],
     number: usize,
-) -> Result<ReadLine<'a, L::Item>, Refusal>
-    ensures { Walked (line_says (L.says form.now) number (lines text.now)) (drop 1 (lines text.now)) (λ l. L.denotes l.item) (λ l. lines l.rest.now) result }
-{
-    let line = take_line(text, number)?;
-    match form.read(line.body) {
-        Ok(item) => Ok(ReadLine {
-            item,
-            rest: line.rest,
-        }),
-        Err(fault) => Err(refusal(fault, number)),
-    }
 }
 
-/// What some lines say, and what follows them.
-#[derive(Clone, Copy)]
-pub struct ReadAll<'a, T, const N: usize> {
-    pub items: ArrayVec<T, N>,
-    pub rest: &'a [u8],
+impl<'a> Model for Lines<'a> {
+    ghost Value = { LinesLeft };
+
+    ghost view = { λ l. record { number = l.number; left = lines l.rest.now } };
+
+    ghost invariant = { λ l. l.number + length (lines l.rest.now) < 2 ^ 64 };
 }
 
-/// Reads as many lines of this form as were announced; the first has this number.
-pub fn read_each<'a, L: LineForm, const N: usize>(
-    form: &L,
-    blank: L::Item,
-    text: &'a [u8],
-    number: usize,
-    count: usize,
-) -> Result<ReadAll<'a, L::Item, N>, Refusal>
-    requires room { count ≤ N }
-    requires few { number + count < 2 ^ 64 }
-    ensures { Walked (each_says (L.says form.now) number count (lines text.now)) (drop count (lines text.now)) (λ a. map L.denotes (listed a.items)) (λ a. lines a.rest.now) result }
-{
-    let mut items = ArrayVec::new(blank);
-    let mut rest = text;
-    for i in 0..count {
-        let line = read_line(form, rest, number + i)?;
-        let _ = items.push(line.item);
-        rest = line.rest;
+impl<'a> Lines<'a> {
+    /// All lines of a text.
+    pub fn of(text: &'a [u8]) -> Self
+        requires { length text.now ≤ max_sheet }
+        ensures { result ≡ all_lines text.now }
+    {
+        Lines {
+            rest: text,
+            number: 1,
+        }
     }
-    Ok(ReadAll { items, rest })
+
+    /// Takes the next line and gives its text.
+    fn take(&mut self) -> Result<&'a [u8], Refusal>
+        ensures text { map_ok (λ t. t.now) result ≡ line_text self.old.number self.old.left }
+        ensures left { OnOk result (self.new ≡ after 1 self.old) }
+    {
+        let line = self.number;
+        match split_line(self.rest) {
+            None => Err(Refusal::LineMissing { line }),
+            Some((body, Some(rest))) if is_readable(body) => {
+                self.rest = rest;
+                self.number += 1;
+                Ok(body)
+            }
+            Some(_) => Err(Refusal::LineUnreadable { line }),
+        }
+    }
+
+    /// Reads the next line, which is of this form.
+    pub fn read<L: LineForm>(&mut self, form: &L) -> Result<L::Item, Refusal>
+        ensures says { map_ok L.denotes result ≡ line_says (L.says form.now) self.old.number self.old.left }
+        ensures left { OnOk result (self.new ≡ after 1 self.old) }
+    {
+        let number = self.number;
+        let body = self.take()?;
+        form.read(body).map_err(|fault| refusal(fault, number))
+    }
+
+    /// Reads as many lines of this form as were announced.
+    pub fn read_each<L: LineForm, const N: usize>(
+        &mut self,
+        form: &L,
+        blank: L::Item,
+        count: usize,
+    ) -> Result<ArrayVec<L::Item, N>, Refusal>
+        requires { count ≤ N }
+        ensures say { map_ok (λ v. map L.denotes (listed v)) result ≡ each_says (L.says form.now) self.old.number count self.old.left }
+        ensures left { OnOk result (self.new ≡ after count self.old) }
+    {
+        let mut items = ArrayVec::new(blank);
+        for _ in 0..count {
+            let _ = items.push(self.read(form)?);
+        }
+        Ok(items)
+    }
+
+    /// Refuses a line past those that were announced.
+    pub fn end(&self) -> Result<(), Refusal>
+        ensures { (p : Plan) → map_ok (λ _. p) result ≡ no_more self.now.number self.now.left p }
+    {
+        match split_line(self.rest) {
+            None => Ok(()),
+            Some(_) => Err(Refusal::LineLeftOver { line: self.number }),
+        }
+    }
 }

@@ -1,4 +1,3 @@
-pub mod Decimal
 pub mod Numbers
 pub mod Parts
 pub mod Range

@@ -1,11 +1,11 @@
 -- A text taken apart at its first line feed or space.
-use Rattle.std.proofs.Common.{◌≡◌, ℕ, ◌+◌, ◌-◌, ◌<◌, ◌≤◌, true, false, List, [], ◌∷◌, ◌++◌, length, get_or, take, drop, sym, refl, ap, ◌∙◌, arith}
+use Rattle.std.proofs.Common.{◌≡◌, ◌≢◌, ℕ, ◌<◌, true, false, List, [], ◌∷◌, ◌++◌, length, None, Some, Option, MatchOption, All, is_some, Bor, refl, ap, ◌∙◌, arith}
 use Rattle.std.specs.List.{AllByRecursion}
-use Rattle.std.proofs.ByRecursion.{All-from_get_or}
-use Rattle.std.proofs.lemmas.List.{drop_more, take_rest, take-append-drop, length-take-le, get_or-take}
+use Rattle.std.proofs.lemmas.List.Elements.{recursion_from_All}
 use Rattle.std.proofs.lemmas.Bool.{cond-false, ne_eqb}
 use Rattle.text.specs.Lines.{line, lines, grown}
 use Rattle.text.specs.Items.{items, widened}
+use Rattle.text.specs.Split.{items_after, lines_after}
 
 -- no byte of the text is c
 abbrev pub Lacks : ℕ → List ℕ → Type 0
@@ -28,21 +28,12 @@ pub items_last : (text : List ℕ) → Lacks 32 text → items text ≡ text ∷
 items_last [] h = refl
 items_last (c ∷ cs) h = cond-false _ _ _ (ne_eqb c 32 h.0) ∙ ap (widened c) (items_last cs h.1)
 
--- a loop has passed the first i bytes and met no c
-abbrev pub Passed : ℕ → List ℕ → ℕ → Type 0
-Passed c text i = (k : ℕ) → k < i → get_or text k 0 ≡ c → ⊥
+-- a text cut at its first space, which has one where something follows
+pub items_cut : (text front : List ℕ) (rest : Option (Bor (List ℕ))) → All (λ b. b ≢ 32) front → MatchOption rest (text ≡ front) (λ r. text ≡ front ++ 32 ∷ r.now) → items text ≡ front ∷ items_after rest
+items_cut text front None lacks whole = ap items whole ∙ items_last front (recursion_from_All _ front lacks)
+items_cut text front (Some r) lacks whole = ap items whole ∙ items_parted front r.now (recursion_from_All _ front lacks)
 
--- the same of the slice before i
-pub lacks_front : (c : ℕ) (text : List ℕ) (i : ℕ) → i ≤ length text → Passed c text i → Lacks c (take (i - 0) text)
-lacks_front c text i h passed =
-    let z : i - 0 ≡ i = omega arith in
-    rw z (All-from_get_or (λ b. b ≡ c → ⊥) (take i text) 0 (λ k s e. let m : k < i = omega (arith, length-take-le i text h) in passed k m (sym (get_or-take i text k 0 m) ∙ e)))
-
-pub lacks_all : (c : ℕ) (text : List ℕ) (i : ℕ) → length text ≤ i → Passed c text i → Lacks c text
-lacks_all c text i h passed = All-from_get_or (λ b. b ≡ c → ⊥) text 0 (λ k s e. passed k (omega arith) e)
-
--- the text around the byte at i, as the slices before and after it have it
-pub around : (c : ℕ) (text : List ℕ) (i : ℕ) → i < length text → get_or text i 0 ≡ c → text ≡ take (i - 0) text ++ (c ∷ take (length text - (i + 1)) (drop (i + 1) text))
-around c text i h e =
-    let z : i - 0 ≡ i = omega arith in
-    rw (z, take_rest text (i + 1)) (sym (take-append-drop i text) ∙ ap (λ t. take i text ++ t) (drop_more text i 0 h ∙ ap (λ b. b ∷ drop (i + 1) text) e))
+-- a text cut at its first line feed, which has one where the line has ended
+pub lines_cut : (text front : List ℕ) (rest : Option (Bor (List ℕ))) → 0 < length text → All (λ b. b ≢ 10) front → MatchOption rest (text ≡ front) (λ r. text ≡ front ++ 10 ∷ r.now) → lines text ≡ line front (is_some rest) ∷ lines_after rest
+lines_cut text front None some lacks whole = ap lines whole ∙ lines_open front (recursion_from_All _ front lacks) (omega (arith, ap length whole))
+lines_cut text front (Some r) some lacks whole = ap lines whole ∙ lines_ended front r.now (recursion_from_All _ front lacks)

@@ -1,25 +1,9 @@
 -- Bytes within a range, one by one.
-use Rattle.std.proofs.Common.{◌≡◌, ℕ, ◌+◌, ◌<◌, ◌≤◌, true, false, ◌&&◌, leb, List, [], ◌∷◌, length, get_or, drop, refl, ap, ◌∙◌}
+use Rattle.std.proofs.Common.{◌≡◌, ℕ, ◌<◌, ◌≤◌, true, leb, List, [], ◌∷◌, length, get_or, refl}
 use Rattle.std.specs.List.{AllByRecursion}
 use Rattle.std.proofs.ByRecursion.{All-get_or}
-use Rattle.std.proofs.lemmas.List.{at_drop_more}
-use Rattle.std.proofs.lemmas.Bool.{and_from, and_left, and_right, and_parts, le-leb, lt-leb, leb-true}
+use Rattle.std.proofs.lemmas.Bool.{and_from, and_parts, le-leb, leb-true}
 use Rattle.text.specs.Bytes.{within, all_within}
-
-module _ (low high : ℕ) (bytes : List ℕ) (i : ℕ) (h : i < length bytes) where
-  step : all_within low high (drop i bytes) ≡ (within low high (get_or bytes i 0) && all_within low high (drop (i + 1) bytes))
-  step = at_drop_more (all_within low high) bytes i 0 h
-
-  -- a byte within the range leaves the answer to the rest
-  pub on : low ≤ get_or bytes i 0 → get_or bytes i 0 ≤ high → all_within low high (drop i bytes) ≡ all_within low high (drop (i + 1) bytes)
-  on a b = step ∙ ap (λ t. t && all_within low high (drop (i + 1) bytes)) (and_from _ _ (le-leb low _ a) (le-leb _ high b))
-
-  -- any other byte settles it
-  pub under : get_or bytes i 0 < low → all_within low high (drop i bytes) ≡ false
-  under a = step ∙ and_left _ _ (and_left _ _ (lt-leb low _ a))
-
-  pub over : high < get_or bytes i 0 → all_within low high (drop i bytes) ≡ false
-  over a = step ∙ and_left _ _ (and_right (leb low (get_or bytes i 0)) _ (lt-leb _ high a))
 
 -- each byte of a text within the range is
 abbrev pub InRange : ℕ → ℕ → ℕ → Type 0

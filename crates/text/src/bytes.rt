@@ -7,10 +7,5 @@ ghost use Rattle.text.specs.Bytes.{all_within};
 pub fn all_within(bytes: &[u8], low: u8, high: u8) -> bool
     ensures { result ≡ all_within low high bytes.now }
 {
-    for b in bytes {
-        if *b < low || *b > high {
-            return false;
-        }
-    }
-    true
+    bytes.iter().all(|b| (low..=high).contains(b))
 }

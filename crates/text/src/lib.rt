@@ -6,3 +6,4 @@ mod bytes;
 pub mod items;
 pub mod lines;
 pub mod numerals;
+pub mod split;

@@ -1,6 +1,6 @@
 //! Decimal numbers.
 
-ghost use Rattle.std.specs.Prelude.{◌≡◌, ◌<◌, take, IfSome, if◌then◌else◌, None, nat_le};
+ghost use Rattle.std.specs.Prelude.{◌≡◌, take, pos, if◌then◌else◌, None, nat_le};
 ghost use Rattle.std.specs.Option.{option_map};
 ghost use Rattle.text.specs.Numerals.{magnitude as magnitude_of, numeral as numeral_of, numbers as numbers_of};
 ghost use Rattle.text.specs.Split.{items_after};
@@ -15,16 +15,15 @@ pub const MAX_DIGITS: usize = 7;
 pub const MAX_NUMBERS: usize = 9;
 
 /// The number that decimal digits write.
-fn magnitude(digits: &[u8]) -> Option<u32>
-    ensures value { result ≡ magnitude_of digits.now }
-    ensures bound { IfSome result (λ n. n < 10000000) }
+fn magnitude(digits: &[u8]) -> Option<i32>
+    ensures { result ≡ option_map pos (magnitude_of digits.now) }
 {
     if digits.is_empty() || digits.len() > MAX_DIGITS || !all_within(digits, b'0', b'9') {
         return None;
     }
-    let mut n: u32 = 0;
+    let mut n = 0;
     for d in digits {
-        n = n * 10 + (*d - b'0') as u32;
+        n = n * 10 + i32::from(*d - b'0');
     }
     Some(n)
 }
@@ -34,14 +33,8 @@ pub fn numeral(item: &[u8]) -> Option<i32>
     ensures { result ≡ numeral_of item.now }
 {
     match item {
-        [b'-', digits @ ..] => match magnitude(digits) {
-            Some(n) => Some(-(n as i32)),
-            None => None,
-        },
-        _ => match magnitude(item) {
-            Some(n) => Some(n as i32),
-            None => None,
-        },
+        [b'-', digits @ ..] => magnitude(digits).map(|n| -n),
+        _ => magnitude(item),
     }
 }
 

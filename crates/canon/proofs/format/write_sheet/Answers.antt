@@ -26,6 +26,6 @@ returns c =
     let text : b₄ ≡ canonical p = four_writes b₀ b₁ b₂ b₃ b₄ (contents_line (contents_of p)) (flat_map piece_line p.pieces) (flat_map order_line p.orders) (flat_map row_line p.rows) contents pieces orders rows ∙ ap (λ b. b ++ canonical p) c.new-out.ensures.bytes in
     record {
       text = text;
-      back = λ fits. ap meaning text ∙ reads_back p fits;
-      limits = λ fits. subst KeepsLimits (sym text) (written_keeps_limits p fits);
+      back = ap meaning text ∙ reads_back p c.args.sheet.now.fits;
+      limits = subst KeepsLimits (sym text) (written_keeps_limits p c.args.sheet.now.fits);
     }
