@@ -1,4 +1,6 @@
 //! Counting and listing boxes that come from numbered sources: the other pieces, the cells of a map, the entries of a list.
+//! A rule's `count` and `listed` are one call of these each: a trait cannot give them to just those rules that have sources,
+//! and a type round each such rule would be longer than the two calls.
 
 ghost use Rattle.std.specs.Prelude.{◌≡◌, ℕ, ◌<◌, Bool, length, Option as OptionT};
 ghost use Rattle.room.specs.Seen.{Room, Box as BoxT, box_of};
@@ -37,6 +39,7 @@ pub fn count_boxes<S: Sources>(rule: &S, subject: &Subject<'_>) -> Option<usize>
     requires { Suits (S.serves rule.now) subject.now }
     ensures { result ≡ counted (length (gathered_there (S.given rule.now) (S.many rule.now) subject.now)) }
 {
+    // what a source gives is known up to the axes of the board, which is no value that `filter` and `count` could carry
     let mut boxes = 0;
     for source in 0..rule.sources(subject) {
         if rule.source_box(subject, source).is_some() {
