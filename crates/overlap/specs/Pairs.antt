@@ -25,6 +25,7 @@ pair_box p = record {
 abbrev pub HasZero : Pair → Type 0
 HasZero p = (d : ℕ) × (d < p.axes) × ((on_axis p.asked.now.lengths d ≡ pos 0) ⊎ (on_axis p.other.now.lengths d ≡ pos 0))
 
+-- a length of the pair is 0 on this axis
 abbrev pub zero_on : Pair → ℕ → Bool
 zero_on p d = int_eq (on_axis p.asked.now.lengths d) (pos 0) || int_eq (on_axis p.other.now.lengths d) (pos 0)
 

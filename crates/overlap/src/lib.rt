@@ -2,7 +2,7 @@
 
 #![tactic(auto)]
 
-ghost use Rattle.std.specs.Prelude.{◌≡◌, ℕ, ◌<◌, Bool, true, Decides};
+ghost use Rattle.std.specs.Prelude.{◌≡◌, true, Decides};
 ghost use Rattle.rule.specs.Gathered.{gathered};
 ghost use Rattle.overlap.specs.Clash.{ShutsBlocked, clash_source, overlap_shut};
 ghost use Rattle.overlap.specs.Diffn.{StrictKept, NonstrictKept};

@@ -43,7 +43,7 @@ impl<'a> Pair<'a> {
         }
     }
 
-    /// The origins, on an axis, at which they clash wherever the other lies.
+    /// The origins, on an axis, at which the asked piece clashes with the other wherever that one lies.
     fn span(&self, axis: usize) -> Span
         requires { axis < self.now.axes }
         ensures lower { result.lower ≡ (pair_box self.now).from axis }
@@ -71,7 +71,7 @@ impl<'a> Pair<'a> {
         }
     }
 
-    /// Whether the point lies in that box.
+    /// Whether the point lies in the box of those origins.
     pub fn clashes_at(&self, point: &Point) -> bool
         ensures { result ≡ holds self.now.axes (pair_box self.now) (on_axis point.now.origins) }
     {
