@@ -3,4 +3,3 @@ pub mod Laying
 pub mod ReadFits
 pub mod ReadParts
 pub mod Saying
-pub mod Walking

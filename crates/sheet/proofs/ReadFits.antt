@@ -1,16 +1,14 @@
 -- A plan that is read is within the limits.
-use Rattle.std.proofs.Common.{◌≡◌, ℕ, ◌+◌, ltb, List, [], ◌∷◌, length, drop, Ok, Err, Result, sym, subst, arith}
+use Rattle.std.proofs.Common.{◌≡◌, ℕ, ◌+◌, ltb, List, [], ◌∷◌, length, drop, Ok, Err, subst, arith}
 use Rattle.std.specs.List.{AllByRecursion}
 use Rattle.std.proofs.lemmas.Bool.{cond_both}
 use Rattle.room.specs.declared.orders.Order.{Order}
 use Rattle.room.specs.declared.piece.Extent.{Extent}
-use Rattle.room.specs.declared.refusal.Refusal.{Refusal}
 use Rattle.room.specs.declared.refusal.Refusal.TheVariants.{SheetTooLong}
 use Rattle.room.specs.declared.walls.Cell.{Cell}
 use Rattle.text.specs.Lines.{Line, lines}
 use Rattle.forms.specs.declared.contents.Contents.{Contents}
 use Rattle.forms.specs.Forms.{says_contents, says_piece, says_before, says_wall}
-use Rattle.forms.specs.Outcome.{and_then}
 use Rattle.sheet.specs.Fits.{Fits, PieceFits, OrderFits, RowFits}
 use Rattle.sheet.specs.Meaning.{max_sheet, line_says, each_says, no_more, bodies, lines_say, meaning}
 use Rattle.sheet.specs.Plan.{Plan}
@@ -21,11 +19,7 @@ use Rattle.sheet.proofs.ReadParts.{and_then_ok, line_says_ok, each_says_all, pie
 -- where no line is left over, the plan is what the lines said
 no_more_ok : (number : ℕ) (ls : List Line) (p q : Plan) → no_more number ls p ≡ Ok q → p ≡ q
 no_more_ok number [] p q e = cc
-no_more_ok number (l ∷ ls) p q e = absurd (let z : ◌≡◌ {A = ℕ} 0 1 = cc in omega arith)
-
--- the plan of contents and what the other lines said
-abbrev plan_of : Contents → List (List Extent) → List Order → List (List Cell) → Plan
-plan_of c pieces orders rows = record { axes = c.axes; mode = c.mode; pieces = pieces; orders = orders; rows = rows }
+no_more_ok number (l ∷ ls) p q e = cc
 
 module _ (c : Contents) (within : Within c) where
   -- parts that are as many as the contents announce, each within its limits, make a plan within the limits
@@ -33,7 +27,7 @@ module _ (c : Contents) (within : Within c) where
       → (length pieces ≡ c.pieces) × AllByRecursion (PieceFits c.axes) pieces
       → (length orders ≡ c.orders) × AllByRecursion (OrderFits c.axes c.pieces) orders
       → (length rows ≡ c.rows) × AllByRecursion RowFits rows
-      → Fits (plan_of c pieces orders rows)
+      → Fits (record { axes = c.axes; mode = c.mode; pieces = pieces; orders = orders; rows = rows })
   parts_fit pieces orders rows ps os rs =
       let pieces_are = ps.0 in
       let orders_are = os.0 in
@@ -46,39 +40,26 @@ module _ (c : Contents) (within : Within c) where
         orders_to = omega arith;
         rows_to = omega arith;
         pieces_fit = ps.1;
-        orders_fit = subst (λ n. AllByRecursion (OrderFits c.axes n) orders) (sym pieces_are) os.1;
+        orders_fit = rw pieces_are os.1;
         rows_fit = rs.1;
       }
-
-  -- the same, of the plan that is read where no line is left over
-  ending_fits : (number : ℕ) (ls : List Line) (p : Plan) (pieces : List (List Extent)) (orders : List Order) (rows : List (List Cell))
-      → (length pieces ≡ c.pieces) × AllByRecursion (PieceFits c.axes) pieces
-      → (length orders ≡ c.orders) × AllByRecursion (OrderFits c.axes c.pieces) orders
-      → (length rows ≡ c.rows) × AllByRecursion RowFits rows
-      → no_more number ls (plan_of c pieces orders rows) ≡ Ok p → Fits p
-  ending_fits number ls p pieces orders rows ps os rs e =
-      subst Fits (no_more_ok number ls (plan_of c pieces orders rows) p e) (parts_fit pieces orders rows ps os rs)
 
   -- what the lines after the contents say is within the limits
   bodies_fit : (ls : List Line) (p : Plan) → bodies c ls ≡ Ok p → Fits p
   bodies_fit ls p e =
-      let wall_lines = each_says says_wall (2 + c.pieces + c.orders) c.rows (drop (c.pieces + c.orders) ls) in
-      let order_lines = each_says (says_before c.axes c.pieces) (2 + c.pieces) c.orders (drop c.pieces ls) in
-      let piece_lines = each_says (says_piece c.axes) 2 c.pieces ls in
-      let ending : List (List Extent) → List Order → List (List Cell) → Result Plan Refusal = λ pieces orders rows. no_more (2 + c.pieces + c.orders + c.rows) (drop (c.pieces + c.orders + c.rows) ls) (plan_of c pieces orders rows) in
-      let ps = and_then_ok piece_lines (λ pieces. and_then order_lines (λ orders. and_then wall_lines (λ rows. ending pieces orders rows))) p e in
-      let os = and_then_ok order_lines (λ orders. and_then wall_lines (λ rows. ending ps.0 orders rows)) p ps.2 in
-      let rs = and_then_ok wall_lines (λ rows. ending ps.0 os.0 rows) p os.2 in
-      ending_fits (2 + c.pieces + c.orders + c.rows) (drop (c.pieces + c.orders + c.rows) ls) p ps.0 os.0 rs.0
-      (each_says_all (PieceFits c.axes) (says_piece c.axes) (piece_fits c.axes) 2 c.pieces ls ps.0 ps.1)
-      (each_says_all (OrderFits c.axes c.pieces) (says_before c.axes c.pieces) (order_line_fits c.axes c.pieces) (2 + c.pieces) c.orders (drop c.pieces ls) os.0 os.1)
-      (each_says_all RowFits says_wall wall_line_fits (2 + c.pieces + c.orders) c.rows (drop (c.pieces + c.orders) ls) rs.0 rs.1)
-      rs.2
+      let ps = and_then_ok (each_says (says_piece c.axes) 2 c.pieces ls) _ p e in
+      let os = and_then_ok (each_says (says_before c.axes c.pieces) (2 + c.pieces) c.orders (drop c.pieces ls)) _ p ps.2 in
+      let rs = and_then_ok (each_says says_wall (2 + c.pieces + c.orders) c.rows (drop (c.pieces + c.orders) ls)) _ p os.2 in
+      subst Fits (no_more_ok _ _ _ p rs.2)
+      (parts_fit ps.0 os.0 rs.0
+      (each_says_all (PieceFits c.axes) (says_piece c.axes) (piece_fits c.axes) _ _ _ ps.0 ps.1)
+      (each_says_all (OrderFits c.axes c.pieces) (says_before c.axes c.pieces) (order_line_fits c.axes c.pieces) _ _ _ os.0 os.1)
+      (each_says_all RowFits says_wall wall_line_fits _ _ _ rs.0 rs.1))
 
 -- what the lines of a sheet say is within the limits
 lines_fit : (ls : List Line) (p : Plan) → lines_say ls ≡ Ok p → Fits p
 lines_fit ls p e =
-    let front = and_then_ok (line_says says_contents 1 ls) (λ c. bodies c (drop 1 ls)) p e in
+    let front = and_then_ok (line_says says_contents 1 ls) _ p e in
     let said = line_says_ok says_contents 1 ls front.0 front.1 in
     bodies_fit front.0 (contents_within said.0 front.0 said.1) (drop 1 ls) p front.2
 
@@ -86,6 +67,6 @@ lines_fit ls p e =
 pub read_fits : (text : List ℕ) (p : Plan) → meaning text ≡ Ok p → Fits p
 read_fits text p e =
     cond_both (ltb max_sheet (length text)) (Err SheetTooLong) (lines_say (lines text)) (λ r. r ≡ Ok p → Fits p)
-    (λ h k. absurd (let z : ◌≡◌ {A = ℕ} 0 1 = cc in omega arith))
+    (λ h k. cc)
     (λ h k. lines_fit (lines text) p k)
     e

@@ -1,5 +1,5 @@
 -- What a line says once it is read, and what lines in a row say: each part keeps its limits.
-use Rattle.std.proofs.Common.{◌≡◌, ℕ, zero, suc, ◌+◌, ◌*◌, ◌<◌, ◌≤◌, true, eqb, List, [], ◌∷◌, length, get_or, drop, ℤ, pos, ◌≤ℤ◌, Some, None, Ok, Err, codes, Option, Result, sym, refl, ap, ◌∙◌, subst, arith}
+use Rattle.std.proofs.Common.{◌≡◌, ℕ, zero, suc, ◌+◌, ◌*◌, ◌<◌, ◌≤◌, true, List, [], ◌∷◌, length, get_or, drop, ℤ, pos, ◌≤ℤ◌, Some, None, Ok, Err, codes, Option, Result, refl, ap, subst, arith}
 use lib.Signed.{le_z}
 use Rattle.std.specs.Option.{option_map}
 use Rattle.std.specs.List.{AllByRecursion}
@@ -24,45 +24,45 @@ use Rattle.forms.proofs.ContentsWithin.{judged_ok}
 -- where a step and what follows it are good, the step is
 pub and_then_ok : {A B E : Type 0} (r : Result A E) (f : A → Result B E) (y : B) → and_then r f ≡ Ok y → (x : A) × (r ≡ Ok x) × (f x ≡ Ok y)
 and_then_ok (Ok x) f y e = (x, refl, e)
-and_then_ok (Err d) f y e = absurd (let z : ◌≡◌ {A = ℕ} 0 1 = cc in omega arith)
+and_then_ok (Err d) f y e = cc
 
 -- where what is made of a result is good, the result is
 map_ok_ok : {A B E : Type 0} (f : A → B) (r : Result A E) (y : B) → map_ok f r ≡ Ok y → (x : A) × (r ≡ Ok x) × (f x ≡ y)
-map_ok_ok f (Ok x) y e = let v : f x ≡ y = cc in (x, refl, v)
-map_ok_ok f (Err d) y e = absurd (let z : ◌≡◌ {A = ℕ} 0 1 = cc in omega arith)
+map_ok_ok f (Ok x) y e = (x, refl, cc)
+map_ok_ok f (Err d) y e = cc
 
 -- the same of options
 mapped_some : {A B : Type 0} (f : A → B) (o : Option A) (y : B) → option_map f o ≡ Some y → (x : A) × (o ≡ Some x) × (f x ≡ y)
-mapped_some f None y e = absurd (let z : ◌≡◌ {A = ℕ} 0 1 = cc in omega arith)
-mapped_some f (Some x) y e = let v : f x ≡ y = cc in (x, refl, v)
+mapped_some f None y e = cc
+mapped_some f (Some x) y e = (x, refl, cc)
 
 with_some_some : {A B : Type 0} (o : Option A) (f : A → Option B) (y : B) → with_some o f ≡ Some y → (x : A) × (f x ≡ Some y)
-with_some_some None f y e = absurd (let z : ◌≡◌ {A = ℕ} 0 1 = cc in omega arith)
+with_some_some None f y e = cc
 with_some_some (Some x) f y e = (x, e)
 
 -- naming the line of a fault changes nothing that is good
 at_line_ok : {A : Type 0} (number : ℕ) (r : Result A Fault) (x : A) → at_line number r ≡ Ok x → r ≡ Ok x
-at_line_ok number (Ok y) x e = let v : y ≡ x = cc in ap Ok v
-at_line_ok number (Err d) x e = absurd (let z : ◌≡◌ {A = ℕ} 0 1 = cc in omega arith)
+at_line_ok number (Ok y) x e = cc
+at_line_ok number (Err d) x e = cc
 
 -- what a line is read to say, some text says
 pub line_says_ok : {A : Type 0} (says : List ℕ → Result A Fault) (number : ℕ) (ls : List Line) (x : A) → line_says says number ls ≡ Ok x → (body : List ℕ) × (says body ≡ Ok x)
 line_says_ok says number ls x e =
-    let p = and_then_ok (line_text number ls) (λ body. at_line number (says body)) x e in
+    let p = and_then_ok (line_text number ls) _ x e in
     (p.0, at_line_ok number (says p.0) x p.2)
 
 -- lines that are read are as many as were announced, and what holds of all that such a line can say holds of each
 pub each_says_all : {A : Type 0} (P : A → Type 0) (says : List ℕ → Result A Fault) → ((body : List ℕ) (x : A) → says body ≡ Ok x → P x)
     → (number n : ℕ) (ls : List Line) (xs : List A) → each_says says number n ls ≡ Ok xs → (length xs ≡ n) × AllByRecursion P xs
 each_says_all P says sound number zero ls xs e =
-    let v : [] ≡ xs = cc in
-    subst (λ l. (length l ≡ 0) × AllByRecursion P l) v (refl, tt)
+    let none : [] ≡ xs = cc in
+    rw (← none) (refl, tt)
 each_says_all P says sound number (suc n) ls xs e =
-    let first = and_then_ok (line_says says number ls) (λ x. map_ok (λ ys. x ∷ ys) (each_says says (number + 1) n (drop 1 ls))) xs e in
-    let rest = map_ok_ok (λ ys. first.0 ∷ ys) (each_says says (number + 1) n (drop 1 ls)) xs first.2 in
+    let first = and_then_ok (line_says says number ls) _ xs e in
+    let rest = map_ok_ok _ (each_says says (number + 1) n (drop 1 ls)) xs first.2 in
     let said = line_says_ok says number ls first.0 first.1 in
     let more = each_says_all P says sound (number + 1) n (drop 1 ls) rest.0 rest.1 in
-    subst (λ l. (length l ≡ suc n) × AllByRecursion P l) rest.2 (ap (λ k. suc k) more.0, (sound said.0 first.0 said.1, more.1))
+    rw (← rest.2) (ap suc more.0, (sound said.0 first.0 said.1, more.1))
 
 -- PIECE
 
@@ -78,8 +78,8 @@ piece_fits axes body es e =
     let j = judged_ok (option_map (extents axes) numbers_read) extents_fit (λ x. x) es e in
     let m = mapped_some (extents axes) numbers_read j.0 j.1 in
     record {
-      each_axis = ap length (sym j.3) ∙ ap length (sym m.2) ∙ length-map-range_with_len (extent_at axes m.0) 0 axes;
-      each_fits = subst (λ l. AllByRecursion (λ x. extent_fits x ≡ true) l) j.3 (extents_all j.0 j.2);
+      each_axis = rw (← j.3, ← m.2) (length-map-range_with_len (extent_at axes m.0) 0 axes);
+      each_fits = rw (← j.3) (extents_all j.0 j.2);
     }
 
 -- BEFORE
@@ -87,7 +87,7 @@ piece_fits axes body es e =
 -- a number below a count, and not negative, is a count below it
 below_count : (n : ℕ) (z : ℤ) → below n z ≡ true → count z < n
 below_count n (pos k) e = let p = and_parts _ _ e in ltb-true k n p.1
-below_count n (ℤ.negsuc k) e = absurd (let z : ◌≡◌ {A = ℕ} 0 1 = cc in omega arith)
+below_count n (ℤ.negsuc k) e = cc
 
 -- a number that passes the test lies between the two ends
 between_order : (low high : ℕ) (z : ℤ) → between low high z ≡ true → (pos low ≤ℤ z) × (z ≤ℤ pos high)
@@ -107,7 +107,7 @@ order_within axes pieces ns e =
     record {
       before_known = below_count pieces (get_or ns 0 (pos 0)) upto_after.0;
       after_known = below_count pieces (get_or ns 1 (pos 0)) upto_after.1;
-      apart = eqb-false (count (get_or ns 0 (pos 0))) (count (get_or ns 1 (pos 0))) (not-true (eqb (count (get_or ns 0 (pos 0))) (count (get_or ns 1 (pos 0)))) upto_apart.1);
+      apart = eqb-false _ _ (not-true _ upto_apart.1);
       axis_known = below_count axes (get_or ns 2 (pos 0)) upto_axis.1;
       gap_from = gap.0;
       gap_to = gap.1;
@@ -123,7 +123,7 @@ order_line_fits axes pieces body o e =
 
 -- a row that is read has a cell at least
 row_length : (letters : List ℕ) (cs : List Cell) → row letters ≡ Some cs → 1 ≤ length cs
-row_length [] cs e = absurd (let z : ◌≡◌ {A = ℕ} 0 1 = cc in omega arith)
+row_length [] cs e = cc
 row_length (c ∷ more) cs e = let k = length_cells (c ∷ more) cs e in omega arith
 
 -- a wall line gives a cell at least, and not too many

@@ -3,8 +3,7 @@ use Rattle.std.proofs.lemmas.List.{map_push, length_push, append-nil}
 use Rattle.std.proofs.lemmas.Result.{err_from_is_err_and}
 use Rattle.std.proofs.lemmas.Bool.{lt-ltb}
 use Rattle.room.specs.Listed.{listed}
-use Rattle.sheet.proofs.Saying.{put_on_more}
-use Rattle.sheet.proofs.Walking.{after_after}
+use Rattle.sheet.proofs.Saying.{put_on_more, after_after}
 use Rattle.sheet.proofs.walk.Lines.read_each.Goals as goal
 
 pub returns-in_err-read-clause-say : goal.returns-in_err-read-clause-say
