@@ -1,5 +1,5 @@
 -- The cells of a row, letter by letter.
-use Rattle.std.proofs.Common.{◌≡◌, ℕ, suc, ◌+◌, ◌<◌, ◌≤◌, cond, eqb, ltb, leb, List, [], ◌∷◌, ◌++◌, map, length, get_or, take, drop, Some, None, Ok, Err, codes, Option, sym, refl, ap, ◌∙◌, ⊎_elim, append_assoc, arith}
+use Rattle.std.proofs.Common.{◌≡◌, ℕ, suc, ◌+◌, ◌<◌, ◌≤◌, cond, eqb, ltb, List, [], ◌∷◌, ◌++◌, map, length, get_or, take, drop, Some, None, Ok, Err, codes, Option, sym, refl, ap, ◌∙◌, ⊎_elim, append_assoc, arith}
 use Rattle.std.specs.Option.{option_map}
 use Rattle.std.proofs.lemmas.List.{at_drop_more, map_more, length-take, length_push, take_all, take-append-le}
 use Rattle.std.proofs.lemmas.Bool.{cond-true, cond-false, lt-ltb, le-ltb, lt-leb, le-leb, cases_lt}
@@ -64,21 +64,23 @@ row_some : (letters : List ℕ) → 0 < length letters → row letters ≡ cells
 row_some [] h = absurd (omega arith)
 row_some (c ∷ cs) h = refl
 
-from_cells : (letters : List ℕ) (xs : List Cell) (o : Option (List Cell)) → cells letters ≡ o → Some xs ≡ option_map (take 64) o → judged o row_fits (λ cs. cs) ≡ cond (leb (length letters) 64) (Ok xs) (Err Range)
-from_cells letters xs None e h = absurd (let z : ◌≡◌ {A = ℕ} 0 1 = cc in omega arith)
-from_cells letters xs (Some ds) e h = ⊎_elim many few (cases_lt 64 (length letters))
-  where
-    many : 64 < length letters → cond (leb (length ds) 64) (Ok ds) (Err Range) ≡ cond (leb (length letters) 64) (Ok xs) (Err Range)
-    many m = cond-false _ _ _ (lt-leb (length ds) 64 (omega (arith, length_cells letters ds e))) ∙ sym (cond-false _ _ _ (lt-leb (length letters) 64 m))
-
-    few : length letters ≤ 64 → cond (leb (length ds) 64) (Ok ds) (Err Range) ≡ cond (leb (length letters) 64) (Ok xs) (Err Range)
-    few m =
-        let t : xs ≡ take 64 ds = cc in
-        cond-true _ _ _ (le-leb (length ds) 64 (omega (arith, length_cells letters ds e))) ∙ ap Ok (sym (t ∙ take_all 64 ds (omega (arith, length_cells letters ds e)))) ∙ sym (cond-true _ _ _ (le-leb (length letters) 64 m))
-
 -- what a wall line says, once its letters are read
-pub wall_said : (body letters : List ℕ) (xs : List Cell) → Some letters ≡ after (codes "wall ") body → 0 < length letters → Some xs ≡ option_map (take 64) (cells letters) → says_wall body ≡ cond (leb (length letters) 64) (Ok xs) (Err Range)
-wall_said body letters xs word some read =
-    ap (λ o. judged (with_some o row) row_fits (λ cs. cs)) (sym word)
-    ∙ ap (λ o. judged o row_fits (λ cs. cs)) (row_some letters some)
-    ∙ from_cells letters xs (cells letters) refl read
+module _ (body letters : List ℕ) (xs : List Cell) (word : Some letters ≡ after (codes "wall ") body) (some : 0 < length letters) (read : Some xs ≡ option_map (take 64) (cells letters)) where
+  row_said : says_wall body ≡ judged (cells letters) row_fits (λ cs. cs)
+  row_said = ap (λ o. judged (with_some o row) row_fits (λ cs. cs)) (sym word) ∙ ap (λ o. judged o row_fits (λ cs. cs)) (row_some letters some)
+
+  pub wall_wide : 64 < length letters → Err Range ≡ says_wall body
+  wall_wide m = sym (row_said ∙ wide (cells letters) refl read)
+    where
+      wide : (o : Option (List Cell)) → cells letters ≡ o → Some xs ≡ option_map (take 64) o → judged o row_fits (λ cs. cs) ≡ Err Range
+      wide None e h = absurd (let z : ◌≡◌ {A = ℕ} 0 1 = cc in omega arith)
+      wide (Some ds) e h = cond-false _ _ _ (lt-leb (length ds) 64 (omega (arith, length_cells letters ds e)))
+
+  pub wall_row : length letters ≤ 64 → Ok xs ≡ says_wall body
+  wall_row m = sym (row_said ∙ fits (cells letters) refl read)
+    where
+      fits : (o : Option (List Cell)) → cells letters ≡ o → Some xs ≡ option_map (take 64) o → judged o row_fits (λ cs. cs) ≡ Ok xs
+      fits None e h = absurd (let z : ◌≡◌ {A = ℕ} 0 1 = cc in omega arith)
+      fits (Some ds) e h =
+          let t : xs ≡ take 64 ds = cc in
+          cond-true _ _ _ (le-leb (length ds) 64 (omega (arith, length_cells letters ds e))) ∙ ap Ok (sym (t ∙ take_all 64 ds (omega (arith, length_cells letters ds e))))
