@@ -1,12 +1,12 @@
 -- What it means that entries shut a point: some entry does. From it, the law of rules, and which placements keep the rule.
-use Rattle.std.specs.Prelude.{◌≡◌, ℕ, ◌<◌, true, ◌⊎◌, List, length, get_or, ℤ, ◌<ℤ◌, Decides, int_lt, slice_index_or, refl}
-use Rattle.std.proofs.Common.{inl, inr, ap, subst, arith}
+use Rattle.std.specs.Prelude.{◌≡◌, ℕ, ◌<◌, true, ◌⊎◌, List, length, get_or, ◌<ℤ◌, Decides, slice_index_or, refl}
+use Rattle.std.proofs.Common.{inl, subst, arith}
 use Rattle.std.specs.List.{All, HoldsAt}
 use Rattle.std.proofs.lemmas.List.Elements.{All-get_or}
 use Rattle.std.proofs.lemmas.List.{get_or_default}
 use Rattle.std.proofs.lemmas.Int.{ints, by_lt_z}
 use Rattle.std.proofs.lemmas.Bool.{both_ways}
-use Rattle.std.proofs.lemmas.Bool.Decides.{Decides-and, Decides-by_and, Decides-or, Decides-eqb, Decides-ltb, Decides-by_or}
+use Rattle.std.proofs.lemmas.Bool.Decides.{Decides-by_and, Decides-by_or, nat_tests}
 use Rattle.room.specs.Seen.{Room, Point, Inside}
 use Rattle.room.specs.declared.orders.Order.{Order}
 use Rattle.room.proofs.Belows.{false_from}
@@ -15,16 +15,14 @@ use Rattle.orders.specs.Named.{Suits}
 use Rattle.orders.specs.Ordered.{OrdersKept, order_suits, orders_suit, order_shuts, orders_shut, reach, no_order}
 
 pub decides_suits : (k n : ℕ) (o : Order) → Decides (order_suits k n o) (Suits k n o)
-decides_suits k n o =
-    let d = Decides-and _ _ (Decides-ltb o.before n) (Decides-and _ _ (Decides-ltb o.after n) (Decides-ltb o.axis k)) in
-    (λ e. let (b, (a, x)) = d.0 e in record { before_in = b; after_in = a; axis_in = x }, λ s. d.1 (s.before_in, (s.after_in, s.axis_in)))
+decides_suits k n o = (
+  λ e. record { before_in = grind (arith, nat_tests); after_in = grind (arith, nat_tests); axis_in = grind (arith, nat_tests) },
+  λ s. grind (arith, nat_tests),
+)
 
 -- each entry suits where all do
 pub suits_at : (entries : List Order) (k n : ℕ) → orders_suit entries k n ≡ true → All (Suits k n) entries
 suits_at entries k n e = (Decides-by_and (order_suits k n) (Suits k n) (λ os. orders_suit os k n) (decides_suits k n) refl (λ _ _. refl) entries).0 e
-
-decides_int_lt : (a b : ℤ) → Decides (int_lt a b) (a <ℤ b)
-decides_int_lt a b = (λ e. grind (arith, ints), λ h. grind (arith, ints))
 
 -- the piece is the one before and reaches too far, or it is the one after and lies too low
 abbrev pub Parted : Room → ℕ → Point → Order → Type 0
@@ -36,9 +34,10 @@ abbrev pub EntryShuts : ℕ → Room → ℕ → Point → Order → Type 0
 EntryShuts k r p x o = Suits k r.count o × Parted r p x o
 
 pub decides_shuts : (k : ℕ) (r : Room) (p : ℕ) (x : Point) (o : Order) → Decides (order_shuts k r p x o) (EntryShuts k r p x o)
-decides_shuts k r p x o =
-    Decides-and _ _ (decides_suits k r.count o)
-    (Decides-or _ _ (Decides-and _ _ (Decides-eqb p o.before) (decides_int_lt _ _)) (Decides-and _ _ (Decides-eqb p o.after) (decides_int_lt _ _)))
+decides_shuts k r p x o = (
+  λ e. ((decides_suits k r.count o).0 (grind (arith, nat_tests)), grind (arith, ints, nat_tests)),
+  λ (suits, parted). let s = (decides_suits k r.count o).1 suits in grind (arith, ints, nat_tests),
+)
 
 pub decides_shut : (entries : List Order) (k : ℕ) (r : Room) (p : ℕ) (x : Point) → Decides (orders_shut entries k r p x) ((i : ℕ) × (i < length entries) × HoldsAt (EntryShuts k r p x) entries i)
 unfolding orders_shut
@@ -54,14 +53,12 @@ narrows entries k b c p x inside shut =
       known,
       λ d.
           let o = get_or entries i d in
-          let s = (at d).0 in
+          let (s, parted) = at d in
           let counts = inside.counts in
           let size = inside.sizes o.before o.axis s.before_in s.axis_in in
           let low = inside.lows o.before o.axis s.before_in s.axis_in in
-          let high = inside.highs o.after o.axis s.after_in s.axis_in in (
-            record { before_in = omega arith; after_in = omega arith; axis_in = s.axis_in },
-            elim (at d).1 [ inl h ↦ inl (h.0, omega (arith, ints)) | inr h ↦ inr (h.0, omega (arith, ints)) ],
-          ),
+          let high = inside.highs o.after o.axis s.after_in s.axis_in in
+          (record { before_in = omega arith; after_in = omega arith; axis_in = s.axis_in }, grind (arith, ints)),
     )
 
 -- what holds of an element that is there, at any default
@@ -79,10 +76,7 @@ orders_kept entries k r q suit = (
       ((decides_shut entries k (fixed r q) o.before (q o.before)).1 (i, h, at_one (EntryShuts k (fixed r q) o.before (q o.before)) entries i h (s, inl (refl, past))))))
       (λ ends. ends),
   λ each p h. false_from _ (decides_shut entries k (fixed r q) p (q p)) (λ (i, known, at).
-      let o = get_or entries i no_order in
+      let (s, parted) = at no_order in
       let kept = each i known in
-      elim (at no_order).1 [
-        | inl h ↦ let e = ap (λ n. q n o.axis) h.0 in omega (arith, ints)
-        | inr h ↦ let e = ap (λ n. q n o.axis) h.0 in omega (arith, ints)
-      ]),
+      grind (arith, ints)),
 )

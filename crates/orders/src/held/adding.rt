@@ -60,11 +60,15 @@ impl OrderRule {
         file(&mut self.naming, order.after, order);
         Ok(())
     }
+}
 
-    /// All the orders, in their order.
-    pub fn from_orders(orders: &Orders) -> Result<OrderRule, Refusal>
-        ensures { Answers (all_refusal (listed orders.now)) (λ rule. entries_of rule ≡ listed orders.now) result }
-    {
+/// All the orders, in their order.
+impl<'a> TryFrom<&'a Orders> for OrderRule {
+    type Error = Refusal;
+
+    ghost try_from_gives = { λ orders result. Answers (all_refusal (listed orders.now)) (λ rule. entries_of rule ≡ listed orders.now) result };
+
+    fn try_from(orders: &'a Orders) -> Result<Self, Refusal> {
         let mut rule = OrderRule::new();
         for order in orders.as_slice() {
             rule.add(*order)?;

@@ -41,6 +41,7 @@ impl Rule for OrderRule {
     }
 
     fn cover(&self, subject: &Subject<'_>, point: &Point) -> Option<Region> {
+        // no chain: that an entry applies is known by its place in the list, of which a closure is told nothing
         for entry in self.naming[subject.piece].as_slice() {
             let applied = Applied {
                 subject: *subject,

@@ -9,3 +9,6 @@ returns c =
     let size = size_seen a.subject a.entry.now a.applies in
     let high = high_seen a.subject a.entry.now a.applies a.entry.now.after in
     omega (arith, ints)
+
+pub overflow_add-result : goal.overflow_add-result
+overflow_add-result c = omega (arith, ints)
