@@ -38,21 +38,21 @@ length_ends (e ∷ es) = omega (arith, length_ends es)
 length_numbers : (es : List Extent) → length (piece_numbers es) ≡ 3 * length es
 length_numbers es = omega (arith, length-append (map (λ e. e.length) es) (flat_map ends_of es), length-map es (λ e. e.length), length_ends es)
 
-lower_at : (es : List Extent) (k : ℕ) (d : Extent) → k < length es → get_or (flat_map ends_of es) (2 * k) (pos 0) ≡ (get_or es k d).lower
+lower_at : (es : List Extent) (k : ℕ) (d : Extent) → k < length es → get_or (flat_map ends_of es) (2 * k) (pos 0) ≡ (get_or es k d).span.lower
 lower_at [] k d h = absurd (omega arith)
 lower_at (e ∷ es) zero d h = refl
 lower_at (e ∷ es) (suc k) d h = ap (λ n. get_or (flat_map ends_of (e ∷ es)) n (pos 0)) (let m : 2 * suc k ≡ suc (suc (2 * k)) = omega arith in m) ∙ lower_at es k d (omega arith)
 
-upper_at : (es : List Extent) (k : ℕ) (d : Extent) → k < length es → get_or (flat_map ends_of es) (2 * k + 1) (pos 0) ≡ (get_or es k d).upper
+upper_at : (es : List Extent) (k : ℕ) (d : Extent) → k < length es → get_or (flat_map ends_of es) (2 * k + 1) (pos 0) ≡ (get_or es k d).span.upper
 upper_at [] k d h = absurd (omega arith)
 upper_at (e ∷ es) zero d h = refl
 upper_at (e ∷ es) (suc k) d h = ap (λ n. get_or (flat_map ends_of (e ∷ es)) n (pos 0)) (let m : 2 * suc k + 1 ≡ suc (suc (2 * k + 1)) = omega arith in m) ∙ upper_at es k d (omega arith)
 
-parts_back : (e : Extent) (l low up : ℤ) → l ≡ e.length → low ≡ e.lower → up ≡ e.upper → ◌≡◌ {A = Extent} e (record { length = l; lower = low; upper = up })
+parts_back : (e : Extent) (l low up : ℤ) → l ≡ e.length → low ≡ e.span.lower → up ≡ e.span.upper → ◌≡◌ {A = Extent} e (record { length = l; span = record { lower = low; upper = up } })
 parts_back e l low up a b c =
-    ap (λ x. record { length = x; lower = e.lower; upper = e.upper }) (sym a)
-    ∙ ap (λ x. record { length = l; lower = x; upper = e.upper }) (sym b)
-    ∙ ap (λ x. record { length = l; lower = low; upper = x }) (sym c)
+    ap (λ x. record { length = x; span = e.span }) (sym a)
+    ∙ ap (λ x. record { length = l; span = record { lower = x; upper = e.span.upper } }) (sym b)
+    ∙ ap (λ x. record { length = l; span = record { lower = low; upper = x } }) (sym c)
 
 module _ (es : List Extent) (k : ℕ) (d : Extent) (h : k < length es) where
   extent_back : get_or es k d ≡ extent_at (length es) (piece_numbers es) k
@@ -60,11 +60,11 @@ module _ (es : List Extent) (k : ℕ) (d : Extent) (h : k < length es) where
       let a : get_or (piece_numbers es) k (pos 0) ≡ (get_or es k d).length =
       get_or_append_left (map (λ e. e.length) es) (flat_map ends_of es) (pos 0) k (omega (arith, length-map es (λ e. e.length)))
       ∙ get_or-map (λ e. e.length) es k d (pos 0) h in
-      let b : get_or (piece_numbers es) (length es + 2 * k) (pos 0) ≡ (get_or es k d).lower =
+      let b : get_or (piece_numbers es) (length es + 2 * k) (pos 0) ≡ (get_or es k d).span.lower =
       get_or-append_right (map (λ e. e.length) es) (flat_map ends_of es) (length es) (length es + 2 * k) (pos 0) (length-map es (λ e. e.length)) (omega arith)
       ∙ ap (λ n. get_or (flat_map ends_of es) n (pos 0)) (let m : length es + 2 * k - length es ≡ 2 * k = omega arith in m)
       ∙ lower_at es k d h in
-      let c : get_or (piece_numbers es) (length es + 2 * k + 1) (pos 0) ≡ (get_or es k d).upper =
+      let c : get_or (piece_numbers es) (length es + 2 * k + 1) (pos 0) ≡ (get_or es k d).span.upper =
       get_or-append_right (map (λ e. e.length) es) (flat_map ends_of es) (length es) (length es + 2 * k + 1) (pos 0) (length-map es (λ e. e.length)) (omega arith)
       ∙ ap (λ n. get_or (flat_map ends_of es) n (pos 0)) (let m : length es + 2 * k + 1 - length es ≡ 2 * k + 1 = omega arith in m)
       ∙ upper_at es k d h in
@@ -74,7 +74,7 @@ extents_back : (axes : ℕ) (es : List Extent) → length es ≡ axes → extent
 extents_back axes es e = sym (fill_by_all (extent_at axes (piece_numbers es)) es axes nothing e (λ k h. let m : k < length es = omega arith in extent_back es k nothing m ∙ ap (λ n. extent_at n (piece_numbers es) k) e))
   where
     nothing : Extent
-    nothing = record { length = pos 0; lower = pos 0; upper = pos 0 }
+    nothing = record { length = pos 0; span = record { lower = pos 0; upper = pos 0 } }
 
 -- within the limits, each number is small
 
@@ -86,7 +86,7 @@ ordered : (a b : ℤ) → le_z a b ≡ true → a ≤ℤ b
 ordered a b h = grind (arith, ints)
 
 module _ (e : Extent) (h : extent_fits e ≡ true) where
-  parts : (pos 0 ≤ℤ e.length) × (e.length ≤ℤ pos 1000000) × (neg_ℤ (pos 1000000) ≤ℤ e.lower) × (e.lower ≤ℤ e.upper) × (e.upper ≤ℤ pos 1000000)
+  parts : (pos 0 ≤ℤ e.length) × (e.length ≤ℤ pos 1000000) × (neg_ℤ (pos 1000000) ≤ℤ e.span.lower) × (e.span.lower ≤ℤ e.span.upper) × (e.span.upper ≤ℤ pos 1000000)
   parts =
       let a = and_parts _ _ h in
       let b = and_parts _ _ a.0 in
@@ -97,11 +97,11 @@ module _ (e : Extent) (h : extent_fits e ≡ true) where
   small_length : Small e.length
   small_length = let p = parts in small_between e.length (omega (arith, ints)) p.1
 
-  small_lower : Small e.lower
-  small_lower = let p = parts in small_between e.lower p.2 (omega (arith, ints))
+  small_lower : Small e.span.lower
+  small_lower = let p = parts in small_between e.span.lower p.2 (omega (arith, ints))
 
-  small_upper : Small e.upper
-  small_upper = let p = parts in small_between e.upper (omega (arith, ints)) p.4
+  small_upper : Small e.span.upper
+  small_upper = let p = parts in small_between e.span.upper (omega (arith, ints)) p.4
 
 small_ends : (es : List Extent) → AllByRecursion (λ e. extent_fits e ≡ true) es → AllByRecursion Small (flat_map ends_of es)
 small_ends [] h = tt

@@ -22,7 +22,7 @@ contents_line c =
 
 -- the numbers of a piece line: the lengths, then the ends in pairs
 abbrev pub ends_of : Extent → List ℤ
-ends_of e = e.lower ∷ (e.upper ∷ [])
+ends_of e = e.span.lower ∷ (e.span.upper ∷ [])
 
 abbrev pub piece_numbers : List Extent → List ℤ
 piece_numbers es = map (λ e. e.length) es ++ flat_map ends_of es

@@ -10,6 +10,7 @@ use forms::contents::Contents;
 use forms::piece::Extents;
 use room::orders::Order;
 use room::piece::Extent;
+use room::span::Span;
 use room::walls::{Cell, Row};
 use std::fmt;
 
@@ -50,10 +51,10 @@ impl Canonical for Contents {
 
 /// An extent on its own is written as its ends, each after a space: in a piece line, all lengths stand before the ends.
 impl Canonical for Extent {
-    ghost written = { λ e. spaced e.lower ++ spaced e.upper };
+    ghost written = { λ e. spaced e.span.lower ++ spaced e.span.upper };
 
     fn put(&self, out: &mut String) -> fmt::Result {
-        let (lower, upper) = (self.lower, self.upper);
+        let Span { lower, upper } = self.span;
         write!(out, " {lower} {upper}")?;
         Ok(())
     }

@@ -30,14 +30,14 @@ module _ (axes n : ℕ) (ks ms : List ℤ) (lengths : length ks ≡ axes) (pairs
       (λ k h. get_or-map-range_with_len (extent_at axes (ks ++ ms)) 0 n k k (extent_at axes (ks ++ ms) 0) h (omega arith) ∙ sym (same_extent more k h))
 
   -- the extent of one axis more
-  pub next_extent : (lower upper : ℤ) → first_extents axes (ks ++ ms) n ++ record { length = get_or ks n (pos 0); lower = lower; upper = upper } ∷ [] ≡ first_extents axes (ks ++ (ms ++ lower ∷ upper ∷ [])) (n + 1)
+  pub next_extent : (lower upper : ℤ) → first_extents axes (ks ++ ms) n ++ record { length = get_or ks n (pos 0); span = record { lower = lower; upper = upper } } ∷ [] ≡ first_extents axes (ks ++ (ms ++ lower ∷ upper ∷ [])) (n + 1)
   next_extent lower upper =
       let ends = ms ++ lower ∷ upper ∷ [] in
       let at_length : get_or (ks ++ ends) n (pos 0) ≡ get_or ks n (pos 0) = get_or_append_left ks ends (pos 0) n (omega arith) in
       let at_lower : get_or (ks ++ ends) (axes + 2 * n) (pos 0) ≡ lower = grind (arith, places) in
       let at_upper : get_or (ks ++ ends) (axes + 2 * n + 1) (pos 0) ≡ upper = grind (arith, places) in
-      let e : extent_at axes (ks ++ ends) n ≡ record { length = get_or ks n (pos 0); lower = lower; upper = upper } = cc in
-      ap (λ es. es ++ record { length = get_or ks n (pos 0); lower = lower; upper = upper } ∷ []) (same_extents (lower ∷ upper ∷ []))
+      let e : extent_at axes (ks ++ ends) n ≡ record { length = get_or ks n (pos 0); span = record { lower = lower; upper = upper } } = cc in
+      ap (λ es. es ++ record { length = get_or ks n (pos 0); span = record { lower = lower; upper = upper } } ∷ []) (same_extents (lower ∷ upper ∷ []))
       ∙ ap (λ x. first_extents axes (ks ++ ends) n ++ x ∷ []) (sym e)
       ∙ sym (map-range_with_len_more (extent_at axes (ks ++ ends)) 0 n n (omega arith))
 

@@ -86,8 +86,7 @@ says_contents body = judged (with_some (after (codes "sheet ") body) (λ text. c
 abbrev pub extent_at : ℕ → List ℤ → ℕ → Extent
 extent_at axes ns d = record {
   length = slice_index_or ns d (pos 0);
-  lower = slice_index_or ns (axes + 2 * d) (pos 0);
-  upper = slice_index_or ns (axes + 2 * d + 1) (pos 0);
+  span = record { lower = slice_index_or ns (axes + 2 * d) (pos 0); upper = slice_index_or ns (axes + 2 * d + 1) (pos 0) };
 }
 
 abbrev pub extents : ℕ → List ℤ → List Extent

@@ -13,6 +13,7 @@ use crate::line::{Line, classify};
 use room::array_vec::ArrayVec;
 use room::limits::MAX_AXES;
 use room::piece::{Extent, NO_EXTENT};
+use room::span::Span;
 use text::items::Items;
 
 /// The extents of a piece, one for each axis.
@@ -40,8 +41,7 @@ impl PieceLine {
             let upper = items.number()?;
             let _ = extents.push(Extent {
                 length,
-                lower,
-                upper,
+                span: Span { lower, upper },
             });
         }
         items.next().is_none().then_some(extents)

@@ -15,7 +15,7 @@ ended [] = []
 ended (l ∷ ls) = l ++ (10 ∷ ended ls)
 
 abbrev extent : ℕ → ℕ → ℕ → Extent
-extent length lower upper = record { length = pos length; lower = pos lower; upper = pos upper }
+extent length lower upper = record { length = pos length; span = record { lower = pos lower; upper = pos upper } }
 
 -- two axes, three pieces, one order, two rows
 abbrev sample : List ℕ

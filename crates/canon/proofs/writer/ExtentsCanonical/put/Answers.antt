@@ -11,7 +11,7 @@ returns c =
     let es = listed c.args.self.now in
     let slice : c.as_slice-extents.result.now ≡ es = c.as_slice-extents.ensures.items in
     let lengths : flat_map (λ e. spaced e.length) c.as_slice-extents.result.now ≡ flat_map spaced (map (λ e. e.length) es) = ap (flat_map (λ e. spaced e.length)) slice ∙ joined_map spaced (λ e. e.length) es in
-    let ends : flat_map (λ e. spaced e.lower ++ spaced e.upper) c.as_slice-extents.result.now ≡ flat_map spaced (flat_map ends_of es) = ap (flat_map (λ e. spaced e.lower ++ spaced e.upper)) slice ∙ joined_pairs spaced (λ e. e.lower) (λ e. e.upper) es in
+    let ends : flat_map (λ e. spaced e.span.lower ++ spaced e.span.upper) c.as_slice-extents.result.now ≡ flat_map spaced (flat_map ends_of es) = ap (flat_map (λ e. spaced e.span.lower ++ spaced e.span.upper)) slice ∙ joined_pairs spaced (λ e. e.span.lower) (λ e. e.span.upper) es in
     let numbers : flat_map spaced (map (λ e. e.length) es) ++ (flat_map spaced (flat_map ends_of es) ++ (10 ∷ [])) ≡ flat_map spaced (piece_numbers es) ++ (10 ∷ []) = sym (append_assoc (flat_map spaced (map (λ e. e.length) es)) (flat_map spaced (flat_map ends_of es)) (10 ∷ [])) ∙ ap (λ bs. bs ++ (10 ∷ [])) (sym (joined_append spaced (map (λ e. e.length) es) (flat_map ends_of es))) in
     four_writes (string_bytes c.args.out.now) (string_bytes c.write.new.self) (string_bytes c.put_lengths.new.out) (string_bytes c.put_each.new.out) (string_bytes c.write-2.new.self) (codes "piece") (flat_map spaced (map (λ e. e.length) es)) (flat_map spaced (flat_map ends_of es)) (10 ∷ [])
     c.in_ok-write.ensures.bytes

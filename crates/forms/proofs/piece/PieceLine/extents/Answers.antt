@@ -45,11 +45,11 @@ loop-length-preserved c =
     let lower = c.in_ok-lower.lower in
     let upper = c.in_ok-upper.upper in
     let few : length (listed c.loop-length.extents) ≡ n = ap length c.loop-length.invariant.3 ∙ length-map-range_with_len (extent_at axes (ks ++ ends)) 0 n in
-    let pushed : listed c.push-in-loop-length.new.self ≡ listed c.loop-length.extents ++ record { length = get_or ks n (pos 0); lower = lower; upper = upper } ∷ [] = search (rules, nat_tests) in (
+    let pushed : listed c.push-in-loop-length.new.self ≡ listed c.loop-length.extents ++ record { length = get_or ks n (pos 0); span = record { lower = lower; upper = upper } } ∷ [] = search (rules, nat_tests) in (
       ends ++ lower ∷ upper ∷ [],
       c.loop-length.invariant.1,
       omega (arith, length-append ends (lower ∷ upper ∷ []), c.loop-length.invariant.2),
-      pushed ∙ ap (λ es. es ++ record { length = get_or ks n (pos 0); lower = lower; upper = upper } ∷ []) c.loop-length.invariant.3
+      pushed ∙ ap (λ es. es ++ record { length = get_or ks n (pos 0); span = record { lower = lower; upper = upper } } ∷ []) c.loop-length.invariant.3
           ∙ next_extent axes n ks ends c.loop-length.invariant.1 c.loop-length.invariant.2 (omega (arith, c.loop-length.invariant.1)) lower upper,
       ap (λ left. put_on (ks ++ (ends ++ lower ∷ upper ∷ [])) (numbers (2 * axes - 2 * (n + 1)) left)) (c.number-in-loop-length-2.ensures.rest ∙ ap (drop 1) c.number-in-loop-length.ensures.rest)
           ∙ pair_taken ks ends lower upper (2 * axes - 2 * n) (2 * axes - 2 * (n + 1)) c.loop-length.items (omega (arith, c.loop-length.invariant.1)) c.in_ok-lower.ensures.number (c.in_ok-upper.ensures.number ∙ ap first_number c.number-in-loop-length.ensures.rest)
