@@ -300,7 +300,10 @@ mod tests {
         let spans = [
             Span { lower: 0, upper: 2 },
             Span { lower: 0, upper: 1 },
-            Span { lower: 7, upper: -7 },
+            Span {
+                lower: 7,
+                upper: -7,
+            },
         ];
         assert_eq!(rt; second.first.spans, spans);
         assert_eq!(rt; second.present.spans, spans);
