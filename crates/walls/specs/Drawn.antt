@@ -1,7 +1,9 @@
 -- The boxes of the origins at which a piece covers walls: of a run of cells in one column, and of each cell of a map.
 use Rattle.std.specs.Prelude.{ℕ, ◌*◌, ◌/◌, ◌%◌, min, cond, ◌&&◌, List, [], ◌∷◌, length, ℤ, pos, ◌+ℤ◌, ◌-ℤ◌, neg_ℤ, ◌≤ℤ◌, Some, None, Option}
 use Rattle.room.specs.Limits.{max_cells, max_end, max_length, max_rows}
-use Rattle.room.specs.Seen.{Room, Box, meets, on_axis}
+use Rattle.room.specs.Seen.{Room, Box, box_of, meets}
+use Rattle.room.specs.declared.region.Region.{Region}
+use Rattle.room.specs.declared.span.Span.{Span}
 use Rattle.room.specs.declared.walls.Cell.{Cell}
 use Rattle.rule.specs.Means.{max_box_end}
 use Rattle.walls.specs.Walled.{wall}
@@ -15,12 +17,19 @@ pub record LengthFits (size : ℤ) : Type 0 where
   pub from : pos 0 ≤ℤ size
   pub to : size ≤ℤ pos max_length
 
+-- the origins at which a piece of this length covers some cell from the first to the last
+abbrev pub reach : ℤ → ℕ → ℕ → Span
+reach length first last = record { lower = (pos first -ℤ length) +ℤ pos 1; upper = pos last }
+
+abbrev any_origin : Span
+any_origin = record { lower = neg_ℤ (pos max_box_end); upper = pos max_box_end }
+
 -- where a piece of this width and height covers some cell of the rows from top to bottom in a column
+abbrev pub run_region : ℤ → ℤ → ℕ → ℕ → ℕ → Region
+run_region width height column top bottom = record { spans = reach width column column ∷ reach height top bottom ∷ any_origin ∷ [] }
+
 abbrev pub run_box : ℤ → ℤ → ℕ → ℕ → ℕ → Box
-run_box width height column top bottom = record {
-  from = on_axis (((pos column -ℤ width) +ℤ pos 1) ∷ ((pos top -ℤ height) +ℤ pos 1) ∷ neg_ℤ (pos max_box_end) ∷ []);
-  to = on_axis (pos column ∷ pos bottom ∷ pos max_box_end ∷ []);
-}
+run_box width height column top bottom = box_of (run_region width height column top bottom)
 
 -- the cells of a map are numbered row by row, as if each row had as many cells as a row may have; rows past those that a
 -- map may have are not counted

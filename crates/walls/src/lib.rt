@@ -5,25 +5,29 @@
 ghost use Rattle.std.specs.Prelude.{◌≡◌, ℕ, ◌+◌, ◌<◌, ◌≤◌, true, false, length, pos, ◌≤ℤ◌, ◌<ℤ◌, MatchOption, slice_index_or};
 ghost use Rattle.room.specs.Limits.{max_cells, max_rows};
 ghost use Rattle.room.specs.Listed.{rows_of};
-ghost use Rattle.room.specs.Seen.{box_of, on_axis};
+ghost use Rattle.room.specs.Seen.{on_axis};
 ghost use Rattle.room.specs.declared.walls.Cell.TheVariants.{Open as OpenT};
 ghost use Rattle.rule.specs.Gathered.{gathered};
 ghost use Rattle.rule.specs.Kept.{Same};
-ghost use Rattle.walls.specs.Drawn.{LengthFits, OriginFits, cell_given, cells_of, run_box};
+ghost use Rattle.walls.specs.Drawn.{LengthFits, OriginFits, cell_given, cells_of, reach, run_region};
 ghost use Rattle.walls.specs.Held.{Among, FirstWall, Found, Run, walls_of};
 ghost use Rattle.walls.specs.Walled.{Spans, WallsKept, is_wall, wall, walls_shut, walls_suit};
 ghost use Rattle.walls.specs.Walls;
 
 use room::limits::{MAX_AXES, MAX_CELLS, MAX_ROWS};
-use room::piece::Piece;
 use room::point::Point;
 use room::region::Region;
+use room::span::Span;
 use room::walls::{Cell, WallMap};
 use rule::interface::Rule;
 use rule::listing::{Sources, count_boxes, listed_box};
+use rule::subject::Subject;
 
-/// The ends of a box on an axis along which walls do not end.
-const MAX_BOX_END: i32 = 2_000_000;
+/// The origins on an axis along which walls do not end.
+const ANY_ORIGIN: Span = Span {
+    lower: -2_000_000,
+    upper: 2_000_000,
+};
 
 /// No piece covers a wall cell of the map.
 #[derive(Clone, Copy)]
@@ -88,18 +92,31 @@ fn wall_in_row(cells: &[Cell], columns: Cells) -> Option<usize>
     None
 }
 
+/// The origins at which a piece of this length covers some cell from the first to the last.
+fn reach(length: i32, first: usize, last: usize) -> Span
+    requires length { LengthFits length }
+    requires cells { (first < max_cells) × (last < max_cells) }
+    ensures { result ≡ reach length first last }
+{
+    Span {
+        lower: first as i32 - length + 1,
+        upper: last as i32,
+    }
+}
+
 /// The origins at which a piece covers some cell of the rows from top to bottom in a column.
 fn run_box(lengths: &[i32; MAX_AXES], column: usize, top: usize, bottom: usize) -> Region
     requires width { LengthFits (on_axis lengths.now 0) }
     requires height { LengthFits (on_axis lengths.now 1) }
     requires cells { (column < max_cells) × ((top < max_rows) × (bottom < max_rows)) }
-    ensures { box_of result ≡ run_box (on_axis lengths.now 0) (on_axis lengths.now 1) column top bottom }
+    ensures { result ≡ run_region (on_axis lengths.now 0) (on_axis lengths.now 1) column top bottom }
 {
-    let left = column as i32 - lengths[0] + 1;
-    let above = top as i32 - lengths[1] + 1;
     Region {
-        lower: [left, above, -MAX_BOX_END],
-        upper: [column as i32, bottom as i32, MAX_BOX_END],
+        spans: [
+            reach(lengths[0], column, column),
+            reach(lengths[1], top, bottom),
+            ANY_ORIGIN,
+        ],
     }
 }
 
@@ -174,29 +191,20 @@ impl Sources for WallRule {
 
     ghost given = { λ s k r p. cell_given (walls_of s) k r p };
 
-    fn sources(&self, _axes: usize, _records: &[Piece], _piece: usize) -> usize {
+    fn sources(&self, _subject: &Subject<'_>) -> usize {
         self.map.as_slice().len() * MAX_CELLS
     }
 
-    fn source_box(
-        &self,
-        axes: usize,
-        records: &[Piece],
-        piece: usize,
-        source: usize,
-    ) -> Option<Region> {
+    fn source_box(&self, subject: &Subject<'_>, source: usize) -> Option<Region> {
         let row = source / MAX_CELLS;
         let column = source % MAX_CELLS;
         if !self.is_wall(row, column) {
             return None;
         }
-        let record = &records[piece];
+        let record = subject.record();
         let region = run_box(&record.lengths, column, row, row);
-        if region.meets(axes, &record.present) {
-            Some(region)
-        } else {
-            None
-        }
+        let reached = region.meets(subject.axes, &record.present);
+        reached.then_some(region)
     }
 }
 
@@ -214,12 +222,12 @@ impl Rule for WallRule {
         two_axes || self.map.len() == 0
     }
 
-    fn cover(&self, axes: usize, records: &[Piece], piece: usize, point: &Point) -> Option<Region> {
+    fn cover(&self, subject: &Subject<'_>, point: &Point) -> Option<Region> {
         // a board of one axis has no rows
-        if axes < 2 {
+        if subject.axes < 2 {
             return None;
         }
-        let lengths = &records[piece].lengths;
+        let lengths = &subject.record().lengths;
         let columns = covered(point.origins[0], lengths[0], MAX_CELLS);
         let rows = covered(point.origins[1], lengths[1], MAX_ROWS);
         let place = self.wall_among(rows, columns)?;
@@ -228,11 +236,11 @@ impl Rule for WallRule {
         Some(run_box(lengths, place.column, top, bottom))
     }
 
-    fn count(&self, axes: usize, records: &[Piece], piece: usize) -> Option<usize> {
-        count_boxes(self, axes, records, piece)
+    fn count(&self, subject: &Subject<'_>) -> Option<usize> {
+        count_boxes(self, subject)
     }
 
-    fn listed(&self, axes: usize, records: &[Piece], piece: usize, number: usize) -> Region {
-        listed_box(self, axes, records, piece, number)
+    fn listed(&self, subject: &Subject<'_>, number: usize) -> Region {
+        listed_box(self, subject, number)
     }
 }
