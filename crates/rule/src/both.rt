@@ -42,6 +42,7 @@ impl<P: Rule, Q: Rule> Rule for Both<P, Q> {
     }
 
     fn cover(&self, subject: &Subject<'_>, point: &Point) -> Option<Region> {
+        // `or_else` takes a closure, and of a closure that asks a rule of a type parameter nothing is known
         match self.one.cover(subject, point) {
             Some(region) => Some(region),
             None => self.two.cover(subject, point),
