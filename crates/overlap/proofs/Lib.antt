@@ -1,2 +1,3 @@
 pub mod Paired
 pub mod Parted
+pub mod Rivals

@@ -1,12 +1,12 @@
 -- Which placements keep the rule: those in which every pair of pieces is parted.
 use Rattle.std.proofs.Common.{◌≡◌, ℕ, ◌<◌, false, ◌&&◌, ◌⊎◌, ◌+ℤ◌, ◌≤ℤ◌, sym, inl, inr, ⊎_elim, arith}
+use Rattle.std.proofs.Math.Logic.{⊎_map, ⊎_swap}
 use lib.Signed.{le_z}
 use Rattle.std.proofs.lemmas.Int.{ints}
-use Rattle.std.proofs.lemmas.Bool.{both_ways, and_parts, and_cases, cases_Bool, cases_order}
+use Rattle.std.proofs.lemmas.Bool.{both_ways, cases_Bool, cases_order}
 use Rattle.std.proofs.lemmas.Bool.Decides.{not_from_Decides}
 use Rattle.room.specs.Seen.{Room}
 use Rattle.room.proofs.Belows.{all_or_some, false_from}
-use Rattle.room.proofs.Cuts.{decides_int_le}
 use Rattle.rule.specs.Kept.{Placement, Keeps, Same, fixed}
 use Rattle.overlap.specs.Clash.{exempt, clash_box, overlap_shut, Exempt}
 use Rattle.overlap.specs.Diffn.{StrictKept, NonstrictKept}
@@ -22,52 +22,39 @@ Apart r q i j d = ((q i d +ℤ r.size i d) ≤ℤ q j d) ⊎ ((q j d +ℤ r.size
 abbrev Parted : Overlap → ℕ → Room → Placement → ℕ → ℕ → Type 0
 Parted mode k r q i j = Exempt mode k r i j ⊎ ((d : ℕ) × (d < k) × Apart r q i j d)
 
-swap : {P Q : Type 0} → P ⊎ Q → Q ⊎ P
-swap e = ⊎_elim inr inl e
-
 exempt_swap : (mode : Overlap) (k : ℕ) (r : Room) (i j : ℕ) → Exempt mode k r i j → Exempt mode k r j i
 exempt_swap Strict k r i j e = e
-exempt_swap Nonstrict k r i j (d, h, zero) = (d, h, swap zero)
+exempt_swap Nonstrict k r i j (d, h, zero) = (d, h, ⊎_swap zero)
 
 parted_swap : (mode : Overlap) (k : ℕ) (r : Room) (q : Placement) (i j : ℕ) → Parted mode k r q i j → Parted mode k r q j i
-parted_swap mode k r q i j parted = ⊎_elim (λ e. inl (exempt_swap mode k r i j e)) (λ (d, h, apart). inr (d, h, swap apart)) parted
+parted_swap mode k r q i j parted = ⊎_map (exempt_swap mode k r i j) (λ (d, h, apart). (d, h, ⊎_swap apart)) parted
 
 -- exempt goes by lengths alone, which the fixed bounds keep
-exempt_fixed : (mode : Overlap) (k : ℕ) (r : Room) (q : Placement) (i j : ℕ) → Exempt mode k (fixed r q) i j → Exempt mode k r i j
-exempt_fixed Strict k r q i j e = e
-exempt_fixed Nonstrict k r q i j e = e
-
-fixed_exempt : (mode : Overlap) (k : ℕ) (r : Room) (q : Placement) (i j : ℕ) → Exempt mode k r i j → Exempt mode k (fixed r q) i j
-fixed_exempt Strict k r q i j e = e
-fixed_exempt Nonstrict k r q i j e = e
+exempt_fixed : (mode : Overlap) (k : ℕ) (r : Room) (q : Placement) (i j : ℕ) → Same (Exempt mode k (fixed r q) i j) (Exempt mode k r i j)
+exempt_fixed Strict k r q i j = (λ e. e, λ e. e)
+exempt_fixed Nonstrict k r q i j = (λ e. e, λ e. e)
 
 -- a parted pair does not clash
 clear : (mode : Overlap) (k : ℕ) (r : Room) (q : Placement) (i j : ℕ) → Parted mode k r q i j → Boxed mode k (fixed r q) i (q i) j → ⊥
 clear mode k r q i j parted boxed =
     ⊎_elim
-    (λ e. boxed.rival.can (fixed_exempt mode k r q i j e))
-    (λ (d, h, apart). let held = boxed.held d h in ⊎_elim (λ a. omega (arith, ints)) (λ b. omega (arith, ints)) apart)
+    (λ e. boxed.rival.can ((exempt_fixed mode k r q i j).1 e))
+    (λ (d, h, apart). let held = boxed.held d h in grind (arith, ints))
     parted
 
 -- an axis on which the point is out of the box is one on which the pair is apart
 out_apart : (r : Room) (q : Placement) (i j d : ℕ) → (le_z ((clash_box (fixed r q) i j).from d) (q i d) && le_z (q i d) ((clash_box (fixed r q) i j).to d)) ≡ false → Apart r q i j d
-out_apart r q i j d out =
-    ⊎_elim
-    (λ e. inl (let n = not_from_Decides _ (decides_int_le ((clash_box (fixed r q) i j).from d) (q i d)) e in grind (arith, ints)))
-    (λ e. inr (let n = not_from_Decides _ (decides_int_le (q i d) ((clash_box (fixed r q) i j).to d)) e in grind (arith, ints)))
-    (and_cases _ _ out)
+out_apart r q i j d out = grind (arith, ints)
 
 -- a pair that does not clash is parted
 parted_from : (mode : Overlap) (k : ℕ) (r : Room) (q : Placement) (i j : ℕ) → (j ≡ i → ⊥) → (Boxed mode k (fixed r q) i (q i) j → ⊥) → Parted mode k r q i j
 parted_from mode k r q i j other free =
     ⊎_elim
-    (λ e. inl (exempt_fixed mode k r q i j ((decides_exempt mode k (fixed r q) i j).0 e)))
+    (λ e. inl ((exempt_fixed mode k r q i j).0 ((decides_exempt mode k (fixed r q) i j).0 e)))
     (λ e. ⊎_elim
     (λ every. absurd (free (record {
       rival = record { other = other; can = not_from_Decides _ (decides_exempt mode k (fixed r q) i j) e };
-      held = λ d h.
-          let (low, high) = and_parts _ _ (every d h) in
-          ((decides_int_le ((clash_box (fixed r q) i j).from d) (q i d)).0 low, (decides_int_le (q i d) ((clash_box (fixed r q) i j).to d)).0 high);
+      held = λ d h. let passes = every d h in (grind (arith, ints), grind (arith, ints));
     })))
     (λ (d, h, out). inr (d, h, out_apart r q i j d out))
     (all_or_some (λ d. le_z ((clash_box (fixed r q) i j).from d) (q i d) && le_z (q i d) ((clash_box (fixed r q) i j).to d)) k))
@@ -96,7 +83,7 @@ strict_kept k r q = (
 pub nonstrict_kept : NonstrictKept
 nonstrict_kept k r q = (
   λ keeps i j below known. ⊎_elim
-      (λ (d, h, zero). (d, h, ⊎_elim (λ a. inl a) (λ b. inr (inl b)) zero))
+      (λ (d, h, zero). (d, h, ⊎_map (λ a. a) inl zero))
       (λ (d, h, apart). (d, h, inr (inr apart)))
       ((kept_parted Nonstrict k r q).0 keeps i j below known),
   λ diffn. (kept_parted Nonstrict k r q).1 (λ i j below known.

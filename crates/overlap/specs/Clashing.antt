@@ -1,17 +1,17 @@
 -- What the tests of the rule tell, and its law.
-use Rattle.std.specs.Prelude.{◌≡◌, ℕ, ◌<◌, true, ℤ, pos, Decides}
+use Rattle.std.specs.Prelude.{◌≡◌, ℕ, ◌<◌, true, ℤ, pos, ◌≤ℤ◌, Decides}
 use Rattle.std.proofs.Common.{inl, inr, ⊎_elim, sym, ◌∙◌, arith}
 use Rattle.std.proofs.lemmas.Int.{ints}
 use Rattle.std.proofs.lemmas.Bool.Decides.{Decides-and, Decides-or, Decides-not, Decides-eqb, Decides-like}
 use Rattle.room.specs.Seen.{Room, Point, Inside, Holds, Within, cut}
 use Rattle.room.proofs.Belows.{decides_any}
-use Rattle.room.proofs.Cuts.{cut_below, cut_past, decides_int_le, decides_holds}
-use Rattle.overlap.specs.Clash.{is_zero, exempt, clash_box, rivals, overlap_shut, Exempt, Ranges, ShutsBlocked}
+use Rattle.room.proofs.Cuts.{cut_below, cut_past, decides_holds}
+use Rattle.overlap.specs.Clash.{is_zero, exempt, clash_box, rivals, overlap_shut, Exempt, ShutsBlocked}
 use Rattle.overlap.specs.declared.Overlap.{Overlap}
 use Rattle.overlap.specs.declared.Overlap.TheVariants.{Strict, Nonstrict}
 
 pub decides_zero : (z : ℤ) → Decides (is_zero z) (z ≡ pos 0)
-decides_zero z = Decides-like _ (λ (a, b). omega (arith, ints)) (λ e. (omega (arith, ints), omega (arith, ints))) (Decides-and _ _ (decides_int_le z (pos 0)) (decides_int_le (pos 0) z))
+decides_zero z = (λ e. grind (arith, ints), λ e. grind (arith, ints))
 
 pub decides_exempt : (mode : Overlap) (k : ℕ) (r : Room) (i j : ℕ) → Decides (exempt mode k r i j) (Exempt mode k r i j)
 decides_exempt Strict k r i j = (λ e. grind arith, λ n. absurd n)
@@ -64,19 +64,12 @@ narrows mode k b c i x in' here shut =
       },
     )
 
--- the ends of a piece's bounds, as a point within them
-low_point : (k : ℕ) (r : Room) (j : ℕ) → j < r.count → Ranges k r → Within k r j (cut k (r.low j))
-low_point k r j known ranges = record {
-  above = λ d h. let e = cut_below k (r.low j) d h in omega (arith, ints);
-  under = λ d h. let e = cut_below k (r.low j) d h in let o = ranges j known d h in omega (arith, ints);
-  flat = cut_past k (r.low j);
-}
-
-high_point : (k : ℕ) (r : Room) (j : ℕ) → j < r.count → Ranges k r → Within k r j (cut k (r.high j))
-high_point k r j known ranges = record {
-  above = λ d h. let e = cut_below k (r.high j) d h in let o = ranges j known d h in omega (arith, ints);
-  under = λ d h. let e = cut_below k (r.high j) d h in omega (arith, ints);
-  flat = cut_past k (r.high j);
+-- numbers within the bounds of a piece on each axis are a point within them
+cut_point : (k : ℕ) (r : Room) (j : ℕ) (f : ℕ → ℤ) → ((d : ℕ) → d < k → (r.low j d ≤ℤ f d) × (f d ≤ℤ r.high j d)) → Within k r j (cut k f)
+cut_point k r j f between = record {
+  above = λ d h. let e = cut_below k f d h in let b = between d h in omega (arith, ints);
+  under = λ d h. let e = cut_below k f d h in let b = between d h in omega (arith, ints);
+  flat = cut_past k f;
 }
 
 -- to lie in the box of j is to clash with j at every origin within its bounds
@@ -94,8 +87,9 @@ shuts_blocked mode k r i x ranges =
     })
     (λ blocked.
     let j = blocked.by in
-    let lowest = blocked.clashes (cut k (r.low j)) (low_point k r j blocked.known ranges) in
-    let highest = blocked.clashes (cut k (r.high j)) (high_point k r j blocked.known ranges) in (
+    let order = ranges j blocked.known in
+    let lowest = blocked.clashes (cut k (r.low j)) (cut_point k r j (r.low j) (λ d h. (omega (arith, ints), order d h))) in
+    let highest = blocked.clashes (cut k (r.high j)) (cut_point k r j (r.high j) (λ d h. (order d h, omega (arith, ints)))) in (
       j,
       blocked.known,
       record {

@@ -1,4 +1,5 @@
 pub mod Clash
 pub mod Diffn
 pub mod Ends
+pub mod Pairs
 pub mod Clashing

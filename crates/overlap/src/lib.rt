@@ -2,22 +2,21 @@
 
 #![tactic(auto)]
 
-ghost use Rattle.std.specs.Prelude.{◌≡◌, ℕ, ◌<◌, ◌≤◌, Bool, true, pos, ◌+ℤ◌, ◌-ℤ◌, Decides};
-ghost use Rattle.room.specs.Fit.{AxisLimits, Limits};
-ghost use Rattle.room.specs.Seen.{Box as BoxT, Holds, on_axis, point_of, box_of};
+ghost use Rattle.std.specs.Prelude.{◌≡◌, true, Decides};
 ghost use Rattle.rule.specs.Gathered.{gathered};
-ghost use Rattle.rule.specs.Means.{SameBox};
 ghost use Rattle.overlap.specs.Clash.{ShutsBlocked, clash_source, overlap_shut};
 ghost use Rattle.overlap.specs.Diffn.{StrictKept, NonstrictKept};
-ghost use Rattle.overlap.specs.Ends.{HasZero, PairExempt, PairLimits, pair_box};
+ghost use Rattle.overlap.specs.Pairs.{PairExempt};
 ghost use Rattle.overlap.specs.Clashing;
 
-use room::limits::MAX_AXES;
-use room::piece::Piece;
+mod pair;
+
+use crate::pair::Pair;
 use room::point::Point;
 use room::region::Region;
 use rule::interface::Rule;
 use rule::listing::{Sources, count_boxes, listed_box};
+use rule::subject::Subject;
 
 /// Pieces i and j clash when, on every axis, i's origin lies below j's origin + length, and j's below i's origin + length.
 /// A point of a piece is shut when some other piece clashes with it at every origin within that piece's bounds.
@@ -27,64 +26,6 @@ pub enum Overlap {
     Strict,
     /// A pair with a length 0 on any axis never clashes.
     Nonstrict,
-}
-
-/// The ends, on one axis, of the origins at which a piece of these lengths clashes with the other wherever that one lies.
-fn clash_ends(lengths: &[i32; MAX_AXES], other: &Piece, axis: usize) -> (i32, i32)
-    requires axes { axis < 3 }
-    requires limits { PairLimits lengths.now other.now axis }
-    ensures from { result.0 ≡ (pair_box lengths.now other.now).from axis }
-    ensures to { result.1 ≡ (pair_box lengths.now other.now).to axis }
-{
-    (
-        other.present.upper[axis] - lengths[axis] + 1,
-        other.present.lower[axis] + other.lengths[axis] - 1,
-    )
-}
-
-/// Whether the point lies in the box of those origins.
-fn clashes_at(axes: usize, lengths: &[i32; MAX_AXES], other: &Piece, point: &Point) -> bool
-    requires axes { axes ≤ 3 }
-    requires limits { (d : ℕ) → d < axes → PairLimits lengths.now other.now d }
-    ensures { Decides result (Holds axes (pair_box lengths.now other.now) (point_of axes point.now.origins)) }
-{
-    for axis in 0..axes {
-        let (from, to) = clash_ends(lengths, other, axis);
-        let origin = point.origins[axis];
-        if origin < from || origin > to {
-            return false;
-        }
-    }
-    true
-}
-
-/// The box of those origins.
-fn clash_region(axes: usize, lengths: &[i32; MAX_AXES], other: &Piece) -> Region
-    requires axes { axes ≤ 3 }
-    requires limits { (d : ℕ) → d < axes → PairLimits lengths.now other.now d }
-    ensures { SameBox axes (box_of result) (pair_box lengths.now other.now) }
-{
-    let mut lower = [0; MAX_AXES];
-    let mut upper = [0; MAX_AXES];
-    for axis in 0..axes {
-        let (from, to) = clash_ends(lengths, other, axis);
-        lower[axis] = from;
-        upper[axis] = to;
-    }
-    Region { lower, upper }
-}
-
-/// Whether a length of the pair is 0 on some axis.
-fn has_zero(axes: usize, lengths: &[i32; MAX_AXES], other: &Piece) -> bool
-    requires { axes ≤ 3 }
-    ensures { Decides result (HasZero axes lengths.now other.now) }
-{
-    for axis in 0..axes {
-        if lengths[axis] == 0 || other.lengths[axis] == 0 {
-            return true;
-        }
-    }
-    false
 }
 
 impl Overlap {
@@ -107,13 +48,12 @@ impl Overlap {
     }
 
     /// Whether the pair never clashes.
-    fn exempts(&self, axes: usize, lengths: &[i32; MAX_AXES], other: &Piece) -> bool
-        requires { axes ≤ 3 }
-        ensures { Decides result (PairExempt self.now axes lengths.now other.now) }
+    fn exempts(&self, pair: &Pair<'_>) -> bool
+        ensures { Decides result (PairExempt self.now pair.now) }
     {
         match self {
             Overlap::Strict => false,
-            Overlap::Nonstrict => has_zero(axes, lengths, other),
+            Overlap::Nonstrict => pair.has_zero(),
         }
     }
 }
@@ -131,26 +71,24 @@ impl Rule for Overlap {
         true
     }
 
-    fn cover(&self, axes: usize, records: &[Piece], piece: usize, point: &Point) -> Option<Region> {
-        let lengths = records[piece].lengths;
-        for (j, other) in records.iter().enumerate() {
-            let is_other = j != piece;
-            if is_other
-                && clashes_at(axes, &lengths, other, point)
-                && !self.exempts(axes, &lengths, other)
-            {
-                return Some(clash_region(axes, &lengths, other));
+    fn cover(&self, subject: &Subject<'_>, point: &Point) -> Option<Region> {
+        // A fixed form of the project: a loop over the records with their numbers, which skips the asked piece.
+        for (j, other) in subject.records.iter().enumerate() {
+            let is_other = j != subject.piece;
+            let pair = Pair::new(subject, other);
+            if is_other && pair.clashes_at(point) && !self.exempts(&pair) {
+                return Some(pair.region());
             }
         }
         None
     }
 
-    fn count(&self, axes: usize, records: &[Piece], piece: usize) -> Option<usize> {
-        count_boxes(self, axes, records, piece)
+    fn count(&self, subject: &Subject<'_>) -> Option<usize> {
+        count_boxes(self, subject)
     }
 
-    fn listed(&self, axes: usize, records: &[Piece], piece: usize, number: usize) -> Region {
-        listed_box(self, axes, records, piece, number)
+    fn listed(&self, subject: &Subject<'_>, number: usize) -> Region {
+        listed_box(self, subject, number)
     }
 }
 
@@ -162,28 +100,19 @@ impl Sources for Overlap {
 
     ghost given = { clash_source };
 
-    fn sources(&self, _axes: usize, records: &[Piece], _piece: usize) -> usize {
-        records.len()
+    fn sources(&self, subject: &Subject<'_>) -> usize {
+        subject.records.len()
     }
 
-    fn source_box(
-        &self,
-        axes: usize,
-        records: &[Piece],
-        piece: usize,
-        source: usize,
-    ) -> Option<Region> {
-        let asked = &records[piece];
-        let other = &records[source];
-        let is_asked = source == piece;
-        if is_asked || self.exempts(axes, &asked.lengths, other) {
+    fn source_box(&self, subject: &Subject<'_>, source: usize) -> Option<Region> {
+        let is_asked = source == subject.piece;
+        let pair = Pair::new(subject, &subject.records[source]);
+        if is_asked || self.exempts(&pair) {
             return None;
         }
-        let region = clash_region(axes, &asked.lengths, other);
-        if region.meets(axes, &asked.present) {
-            Some(region)
-        } else {
-            None
-        }
+        let region = pair.region();
+        region
+            .meets(subject.axes, &subject.record().present)
+            .then_some(region)
     }
 }

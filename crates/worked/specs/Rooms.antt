@@ -4,8 +4,8 @@ use Rattle.std.specs.Prelude.{◌≡◌, ℕ, ◌+◌, ◌-◌, Bool, List, [], 
 use Rattle.std.specs.List.{range_with_len, AllByRecursion}
 use Rattle.room.specs.Seen.{Room, Point, point_of, room_of}
 use Rattle.room.specs.declared.orders.Order.{Order}
-use Rattle.room.specs.declared.piece.Ends.{Ends}
 use Rattle.room.specs.declared.piece.Piece.{Piece}
+use Rattle.room.specs.declared.region.Region.{Region}
 use Rattle.overlap.specs.Clash.{overlap_shut}
 use Rattle.overlap.specs.declared.Overlap.{Overlap}
 use Rattle.overlap.specs.declared.Overlap.TheVariants.{Strict, Nonstrict}
@@ -23,8 +23,8 @@ shut_by (by_orders entries) = orders_shut entries
 -- the record of a piece of this length whose origin is within from..to
 abbrev bar : ℕ → ℕ → ℕ → Piece
 bar length from to =
-    let ends : Ends = record { lower = pos from ∷ []; upper = pos to ∷ [] } in
-    record { lengths = pos length ∷ []; first = ends; present = ends }
+    let bounds : Region = record { spans = record { lower = pos from; upper = pos to } ∷ [] } in
+    record { lengths = pos length ∷ []; first = bounds; present = bounds }
 
 -- of the origins from..to of a piece, these are shut and no others
 pub record Shaded : Type 0 where
