@@ -4,7 +4,7 @@ use crate::array_vec::ArrayVec;
 use crate::limits::{MAX_CELLS, MAX_ROWS};
 
 /// A cell of a wall map: no piece may cover a wall.
-#[derive(Clone, Copy)]
+#[derive(Clone, Copy, PartialEq, Eq)]
 pub enum Cell {
     Wall,
     Open,

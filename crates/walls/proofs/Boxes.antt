@@ -1,21 +1,21 @@
 -- Boxes of origins that cover walls: what lies in them, and that the boxes of the cells are a right list.
-use Rattle.std.proofs.Common.{◌≡◌, ℕ, ◌+◌, ◌*◌, ◌<◌, ◌≤◌, min, true, ◌&&◌, List, length, ℤ, pos, negsuc, neg_ℤ, ◌≤ℤ◌, Some, None, Decides, sym, refl, ap, ◌∙◌, subst, ⊎_elim, arith, lit<}
+use Rattle.std.proofs.Common.{◌≡◌, ℕ, ◌+◌, ◌*◌, ◌<◌, ◌≤◌, min, true, ◌&&◌, List, length, ℤ, pos, negsuc, neg_ℤ, ◌≤ℤ◌, Some, None, Decides, sym, refl, ap, ◌∙◌, subst, arith, lit<}
 use Rattle.std.proofs.lemmas.Nat.{div_below, div-mul-add, mod_below, mod-mul-add, mul-add-lt}
 use Rattle.std.proofs.lemmas.Int.{ints, by_lt_z}
-use Rattle.std.proofs.lemmas.Bool.{cases_lt, cond-true, cond-false}
+use Rattle.std.proofs.lemmas.Bool.{cond-true, cond-false}
 use Rattle.std.proofs.lemmas.Bool.Decides.{Decides-and}
 use Rattle.room.specs.Fit.{Limits}
 use Rattle.room.specs.Limits.{max_cells, max_rows}
-use Rattle.room.specs.Seen.{Room, Point, Box, Within, Holds, Meets, at, meets, on_axis, room_of}
-use Rattle.room.specs.declared.piece.Piece.{Piece}
+use Rattle.room.specs.Seen.{Room, Point, Box, Within, Holds, Meets, meets}
 use Rattle.room.specs.declared.walls.Cell.{Cell}
 use Rattle.room.proofs.Belows.{false_from, passes}
-use Rattle.room.proofs.Cuts.{by_axis, common_point, cut_below, decides_meets, meets_from}
+use Rattle.room.proofs.Cuts.{by_axis, common_point, decides_meets, meets_from}
+use Rattle.std.specs.declared.ops.Range.{Range}
 use Rattle.rule.specs.Gathered.{Sound}
 use Rattle.rule.specs.Means.{EndsFit, ListsBox, Shuts, max_box_end}
 use Rattle.rule.proofs.Boxes.{given_some as given_under}
-use Rattle.walls.specs.Drawn.{cell_box, cell_given, cells_of, column_of, row_of, run_box}
-use Rattle.walls.specs.Held.{Run}
+use Rattle.walls.specs.Drawn.{cell_box, cell_given, cells_of, column_of, only, row_of, run_box}
+use Rattle.walls.specs.Held.{Among, Run}
 use Rattle.walls.specs.Walled.{Spans, wall, walls_shut, walls_suit}
 use Rattle.walls.specs.Walls.{decides_shut, two_axes, wall_within}
 
@@ -23,12 +23,12 @@ natural : (z : ℤ) → pos 0 ≤ℤ z → (n : ℕ) × (z ≡ pos n)
 natural (pos n) h = (n, refl)
 natural (negsuc n) h = absurd (omega (arith, ints))
 
-module _ (rows : List (List Cell)) (k : ℕ) (r : Room) (p : ℕ) (two : 2 ≤ k) (three : k ≤ 3) (limits : (d : ℕ) → d < k → Limits (r.size p d) (r.low p d) (r.high p d)) (column top bottom : ℕ) where
+module _ (rows : List (List Cell)) (k : ℕ) (r : Room) (p : ℕ) (two : 2 ≤ k) (three : k ≤ 3) (limits : (d : ℕ) → d < k → Limits (r.size p d) (r.low p d) (r.high p d)) (column : ℕ) (run : Range ℕ) where
   abbrev box : Box
-  box = run_box (r.size p 0) (r.size p 1) column top bottom
+  box = run_box (r.size p 0) (r.size p 1) column run
 
-  pub run_holds : (x : Point) (row : ℕ) → Within k r p x → Spans (x 0) (r.size p 0) column → Spans (x 1) (r.size p 1) row → top ≤ row → row ≤ bottom → Holds k box x
-  run_holds x row within across down above under d h =
+  pub run_holds : (x : Point) (row : ℕ) → Within k r p x → Spans (x 0) (r.size p 0) column → Spans (x 1) (r.size p 1) row → Among run row → Holds k box x
+  run_holds x row within across down among d h =
       by_axis (λ e. e < k → (box.from e ≤ℤ x e) × (x e ≤ℤ box.to e))
       (λ _. (omega (arith, ints), omega (arith, ints)))
       (λ _. (omega (arith, ints), omega (arith, ints)))
@@ -39,7 +39,7 @@ module _ (rows : List (List Cell)) (k : ℕ) (r : Room) (p : ℕ) (two : 2 ≤ k
       (omega (arith, ints), omega (arith, ints)))
       d (omega arith) h
 
-  pub run_ends : column < max_cells → bottom < max_rows → EndsFit k box
+  pub run_ends : column < max_cells → run.end ≤ max_rows → EndsFit k box
   run_ends across down =
       let wide = limits 0 (omega arith) in
       let tall = limits 1 (omega arith) in
@@ -49,35 +49,18 @@ module _ (rows : List (List Cell)) (k : ℕ) (r : Room) (p : ℕ) (two : 2 ≤ k
       }
 
   -- a point of the box covers the cell at its own row, or at the first row of the run where it lies above it
-  pub run_shuts : pos 1 ≤ℤ r.size p 1 → Run rows column top bottom → Shuts k r p (walls_shut rows k r p) box
-  run_shuts tall run y within held =
+  pub run_shuts : pos 1 ≤ℤ r.size p 1 → run.start < run.end → Run rows column run.start run.end → Shuts k r p (walls_shut rows k r p) box
+  run_shuts tall some walls y within held =
       let across = held 0 (omega arith) in
       let down = held 1 (omega arith) in
-      let at_row : (row : ℕ) → top ≤ row → row ≤ bottom → Spans (y 1) (r.size p 1) row → walls_shut rows k r p y ≡ true = λ row above under spans.
-      (decides_shut rows k r p y).1 (two, record { row = row; column = column; is_there = run.walls row above under; in_columns = record { first = omega (arith, ints); last = omega (arith, ints) }; in_rows = spans })
+      let at_row : (row : ℕ) → run.start ≤ row → row < run.end → Spans (y 1) (r.size p 1) row → walls_shut rows k r p y ≡ true = λ row above under spans.
+      (decides_shut rows k r p y).1 (two, record { row = row; column = column; is_there = walls row above under; in_columns = record { first = omega (arith, ints); last = omega (arith, ints) }; in_rows = spans })
       in
-      by_lt_z (pos top) (y 1)
+      by_lt_z (pos run.start) (y 1)
       (λ under.
       let (row, is) = natural (y 1) (omega (arith, ints)) in
       at_row row (omega (arith, ints)) (omega (arith, ints)) (record { first = omega (arith, ints); last = omega (arith, ints) }))
-      (λ over. at_row top (omega arith) run.order (record { first = over; last = omega (arith, ints) }))
-
--- two runs that meet at a row
-pub run_joined : (rows : List (List Cell)) (column top row bottom : ℕ) → Run rows column top row → Run rows column row bottom → Run rows column top bottom
-run_joined rows column top row bottom up down =
-    let above = up.order in
-    let under = down.order in
-    record {
-      order = omega arith;
-      walls = λ i from to. ⊎_elim (λ before. up.walls i from (omega arith)) (λ past. down.walls i past to) (cases_lt i row);
-    }
-
--- a box of a run, as the room shows the piece
-pub room_box : (k : ℕ) (records : List Piece) (p : ℕ) → 2 ≤ k → (column top bottom : ℕ) → run_box (on_axis (at records p).lengths 0) (on_axis (at records p).lengths 1) column top bottom ≡ run_box ((room_of k records).size p 0) ((room_of k records).size p 1) column top bottom
-room_box k records p two column top bottom =
-    let size = cut_below k (on_axis (at records p).lengths) in
-    ap (λ width. run_box width (on_axis (at records p).lengths 1) column top bottom) (sym (size 0 (omega arith)))
-    ∙ ap (λ height. run_box ((room_of k records).size p 0) height column top bottom) (sym (size 1 (omega arith)))
+      (λ over. at_row run.start (omega arith) some (record { first = over; last = omega (arith, ints) }))
 
 -- what a cell gives
 module _ (rows : List (List Cell)) (k : ℕ) (r : Room) (p source : ℕ) where
@@ -110,14 +93,11 @@ cells_sound rows k r p suits three limits = record {
       let across : column < max_cells = mod_below j 64 (lit< tt) in
       let down : row < max_rows = omega (arith, div_below j 64 (min (length rows) 64) (lit< tt) below) in
       let one = meet 1 (omega arith) in
-      let run : Run rows column row row = record {
-        order = omega arith;
-        walls = λ i from to. let here : row ≡ i = omega arith in subst (λ n. wall rows n column ≡ true) here is;
-      } in
+      let walls : Run rows column row (row + 1) = λ i from to. let here : row ≡ i = omega arith in subst (λ n. wall rows n column ≡ true) here is in
       subst (ListsBox k r p (walls_shut rows k r p)) same (record {
-        shuts = run_shuts rows k r p two three limits column row row (omega (arith, ints)) run;
+        shuts = run_shuts rows k r p two three limits column (only row) (omega (arith, ints)) (omega arith) walls;
         some = common_point k (cell_box r p j) r p (λ d h. (limits d h).order) meet;
-        ends = run_ends rows k r p two three limits column row row across down;
+        ends = run_ends rows k r p two three limits column (only row) across (omega arith);
       });
   every = λ x within shut.
       let (two, covers) = (decides_shut rows k r p x).0 shut in
@@ -130,7 +110,7 @@ cells_sound rows k r p suits three limits = record {
       let is : wall rows (row_of j) (column_of j) ≡ true = ap (λ n. wall rows n (column_of j)) at_row ∙ ap (wall rows row) at_column ∙ covers.is_there in
       let here = inside.row_known in
       let below = inside.row_below in
-      let held = run_holds rows k r p two three limits (column_of j) (row_of j) (row_of j) x (row_of j) within (subst (Spans (x 0) (r.size p 0)) (sym at_column) covers.in_columns) (subst (Spans (x 1) (r.size p 1)) (sym at_row) covers.in_rows) (omega arith) (omega arith) in (
+      let held = run_holds rows k r p two three limits (column_of j) (only (row_of j)) x (row_of j) within (subst (Spans (x 0) (r.size p 0)) (sym at_column) covers.in_columns) (subst (Spans (x 1) (r.size p 1)) (sym at_row) covers.in_rows) (omega arith, omega arith) in (
         j,
         cell_box r p j,
         omega (arith, mul-add-lt row 64 column (min (length rows) 64) (omega arith) inside.column_below),

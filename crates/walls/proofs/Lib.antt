@@ -1,1 +1,3 @@
 pub mod Boxes
+pub mod Cells
+pub mod Seeing

@@ -1,13 +1,11 @@
 -- What the test of a wall map tells, and what follows for placements and for tighter bounds.
-use Rattle.std.specs.Prelude.{◌≡◌, ℕ, ◌<◌, ◌≤◌, true, false, ◌&&◌, List, [], map, length, get_or, ℤ, pos, ◌+ℤ◌, ◌-ℤ◌, Decides, nat_lt, slice_index_or, refl}
-use Rattle.std.proofs.Common.{⊎_elim, sym, ap, subst, ◌∙◌, arith}
-use Rattle.std.proofs.lemmas.List.{get_or-map, get_or_past, length-map}
-use Rattle.std.proofs.lemmas.Bool.{and_parts, and_right, both_ways, cases_lt, or_cases, leb-true, le-leb, le-ltb, lt-ltb, ltb-true, eqb-true}
+use Rattle.std.specs.Prelude.{◌≡◌, ℕ, ◌<◌, ◌≤◌, true, ◌&&◌, List, [], length, ℤ, pos, ◌+ℤ◌, ◌-ℤ◌, Decides, nat_lt, slice_index_or, refl}
+use Rattle.std.proofs.Common.{⊎_elim, sym, ap, subst, arith}
+use Rattle.std.proofs.lemmas.List.{get_or_past}
+use Rattle.std.proofs.lemmas.Bool.{and_parts, both_ways, cases_lt, or_cases, leb-true, le-leb, ltb-true, eqb-true}
 use Rattle.std.proofs.lemmas.Bool.Decides.{Decides-and, Decides-like}
 use Rattle.room.specs.Limits.{max_cells, max_rows}
-use Rattle.room.specs.Listed.{listed, rows_of}
 use Rattle.room.specs.Seen.{Room, Point, Inside}
-use Rattle.room.specs.declared.array_vec.ArrayVec.{ArrayVec}
 use Rattle.room.specs.declared.walls.Cell.{Cell}
 use Rattle.room.specs.declared.walls.Cell.TheVariants.{Open}
 use Rattle.room.proofs.Belows.{decides_any, passes, false_from}
@@ -47,30 +45,6 @@ decides_shut rows k r p x =
     let within = wall_within rows c.row c.column c.is_there in
     (c.row, within.row_below, (c.column, within.column_below, (c.is_there, (c.in_columns, c.in_rows)))))
     (decides_any _ _ (λ i. decides_any _ _ (λ j. Decides-and _ _ (passes (wall rows i j)) (Decides-and _ _ (decides_spans (x 0) (r.size p 0) j) (decides_spans (x 1) (r.size p 1) i))) max_cells) max_rows))
-
-abbrev no_row : ArrayVec Cell 64
-no_row = record { len = 0; slots = [] }
-
--- the cells of a row, as the code reads them
-pub row_at : (rows : List (ArrayVec Cell 64)) (row : ℕ) → row < length rows → slice_index_or (map (λ v. listed v) rows) row [] ≡ listed (slice_index_or rows row no_row)
-row_at rows row here = get_or-map (λ v. listed v) rows row no_row [] here
-
--- a cell of a row, and a row that is not there, as the code reads them
-pub wall_in : (walls : ArrayVec (ArrayVec Cell 64) 64) (rows : List (ArrayVec Cell 64)) (cells : List Cell) (row column : ℕ) → rows ≡ listed walls → row < length rows → length rows ≤ max_rows → cells ≡ listed (slice_index_or rows row no_row) → length cells ≤ max_cells → wall (rows_of walls) row column ≡ is_wall (slice_index_or cells column Open)
-unfolding wall
-wall_in walls rows cells row column these here few those short =
-    let reads : get_or (rows_of walls) row [] ≡ cells = ap (λ vs. get_or (map (λ v. listed v) vs) row []) (sym these) ∙ row_at rows row here ∙ sym those in
-    ap (λ t. t && (nat_lt column max_cells && is_wall (slice_index_or (slice_index_or (rows_of walls) row []) column Open))) (lt-ltb row max_rows (omega arith))
-    ∙ ap (λ found. nat_lt column max_cells && is_wall (slice_index_or found column Open)) reads
-    ∙ ⊎_elim
-    (λ there. ap (λ t. t && is_wall (slice_index_or cells column Open)) (lt-ltb column max_cells there))
-    (λ past. ap (λ t. t && is_wall (slice_index_or cells column Open)) (le-ltb column max_cells past) ∙ sym (ap is_wall (get_or_past cells column Open (omega arith))))
-    (cases_lt column max_cells)
-
-pub wall_off : (walls : ArrayVec (ArrayVec Cell 64) 64) (rows : List (ArrayVec Cell 64)) (row column : ℕ) → rows ≡ listed walls → length rows ≤ row → wall (rows_of walls) row column ≡ false
-unfolding wall
-wall_off walls rows row column these past =
-    and_right (nat_lt row max_rows) _ (and_right (nat_lt column max_cells) _ (ap (λ found. is_wall (slice_index_or found column Open)) (get_or_past (rows_of walls) row [] (omega (arith, length-map (listed walls) (λ v. listed v), ap length these)))))
 
 -- a map with a wall suits two axes or more
 pub two_axes : (rows : List (List Cell)) (k n row column : ℕ) → walls_suit rows k n ≡ true → wall rows row column ≡ true → 2 ≤ k

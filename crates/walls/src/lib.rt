@@ -5,37 +5,38 @@
 ghost use Rattle.std.specs.Prelude.{◌≡◌, ℕ, ◌+◌, ◌<◌, ◌≤◌, true, false, length, pos, ◌≤ℤ◌, ◌<ℤ◌, MatchOption, slice_index_or};
 ghost use Rattle.room.specs.Limits.{max_cells, max_rows};
 ghost use Rattle.room.specs.Listed.{rows_of};
-ghost use Rattle.room.specs.Seen.{box_of, on_axis};
+ghost use Rattle.room.specs.Seen.{point_of};
 ghost use Rattle.room.specs.declared.walls.Cell.TheVariants.{Open as OpenT};
 ghost use Rattle.rule.specs.Gathered.{gathered};
 ghost use Rattle.rule.specs.Kept.{Same};
-ghost use Rattle.walls.specs.Drawn.{LengthFits, OriginFits, cell_given, cells_of, run_box};
-ghost use Rattle.walls.specs.Held.{Among, FirstWall, Found, Run, walls_of};
+ghost use Rattle.rule.specs.Subjects.{WithinBounds};
+ghost use Rattle.walls.specs.Drawn.{LengthFits, cell_given, cells_of, length_seen, reach, run_region};
+ghost use Rattle.walls.specs.Held.{Among, FirstWall, Found, Run, WholeRun, walls_of};
 ghost use Rattle.walls.specs.Walled.{Spans, WallsKept, is_wall, wall, walls_shut, walls_suit};
 ghost use Rattle.walls.specs.Walls;
 
-use room::limits::{MAX_AXES, MAX_CELLS, MAX_ROWS};
-use room::piece::Piece;
+use room::limits::{MAX_CELLS, MAX_ROWS};
 use room::point::Point;
 use room::region::Region;
+use room::span::Span;
 use room::walls::{Cell, WallMap};
 use rule::interface::Rule;
 use rule::listing::{Sources, count_boxes, listed_box};
+use rule::subject::Subject;
+use std::ops::Range;
 
 /// The ends of a box on an axis along which walls do not end.
 const MAX_BOX_END: i32 = 2_000_000;
+
+const ANY_ORIGIN: Span = Span {
+    lower: -MAX_BOX_END,
+    upper: MAX_BOX_END,
+};
 
 /// No piece covers a wall cell of the map.
 #[derive(Clone, Copy)]
 pub struct WallRule {
     map: WallMap,
-}
-
-/// The rows, or the columns, from one to before another.
-#[derive(Clone, Copy)]
-struct Cells {
-    from: usize,
-    to: usize,
 }
 
 /// Where a cell lies.
@@ -51,55 +52,60 @@ fn cells_below(end: i32, many: usize) -> usize
     ensures below { (cell : ℕ) → cell < result → pos cell <ℤ end }
     ensures rest { (cell : ℕ) → cell < many → result ≤ cell → end ≤ℤ pos cell }
 {
-    if end <= 0 { 0 } else { many.min(end as usize) }
+    usize::try_from(end).map_or(0, |end| end.min(many))
 }
 
-/// Which of so many cells a piece covers on an axis.
-fn covered(origin: i32, size: i32, many: usize) -> Cells
-    requires start { OriginFits origin }
-    requires length { LengthFits size }
-    ensures most { result.to ≤ many }
-    ensures cells { (cell : ℕ) → cell < many → Same (Spans origin size cell) (Among result cell) }
+/// Which of so many cells the piece covers on an axis, where its origins are a point within its bounds.
+fn covered(subject: &Subject<'_>, point: &Point, axis: usize, many: usize) -> Range<usize>
+    requires within { WithinBounds subject.now point.now.origins }
+    requires axis { axis < subject.now.axes }
+    ensures most { result.end ≤ many }
+    ensures cells { (cell : ℕ) → cell < many → Same (Spans (point_of subject.now.axes point.now.origins axis) (length_seen subject.now axis) cell) (Among result cell) }
 {
-    let from = cells_below(origin, many);
-    let to = cells_below(origin + size, many);
-    Cells { from, to }
+    let origin = point.origins[axis];
+    let length = subject.record().lengths[axis];
+    cells_below(origin, many)..cells_below(origin + length, many)
 }
 
 /// Whether a row has a wall at a column.
 fn has_wall(cells: &[Cell], column: usize) -> bool
     ensures { result ≡ is_wall (slice_index_or cells.now column OpenT) }
 {
-    match cells.get(column) {
-        Some(cell) => matches!(cell, Cell::Wall),
-        None => false,
-    }
+    cells.get(column) == Some(&Cell::Wall)
 }
 
 /// The first wall of a row in some columns.
-fn wall_in_row(cells: &[Cell], columns: Cells) -> Option<usize>
-    ensures { MatchOption result ((column : ℕ) → Among columns column → is_wall (slice_index_or cells.now column OpenT) ≡ false) (λ column. FirstWall cells.now columns column) }
+fn wall_in_row(cells: &[Cell], columns: &Range<usize>) -> Option<usize>
+    ensures { MatchOption result ((column : ℕ) → columns.now.start ≤ column → column < columns.now.end → is_wall (slice_index_or cells.now column OpenT) ≡ false) (λ column. FirstWall cells.now columns.now column) }
 {
-    for column in columns.from..columns.to {
-        if has_wall(cells, column) {
-            return Some(column);
-        }
-    }
-    None
+    (columns.start..columns.end).find(|column| has_wall(cells, *column))
 }
 
-/// The origins at which a piece covers some cell of the rows from top to bottom in a column.
-fn run_box(lengths: &[i32; MAX_AXES], column: usize, top: usize, bottom: usize) -> Region
-    requires width { LengthFits (on_axis lengths.now 0) }
-    requires height { LengthFits (on_axis lengths.now 1) }
-    requires cells { (column < max_cells) × ((top < max_rows) × (bottom < max_rows)) }
-    ensures { box_of result ≡ run_box (on_axis lengths.now 0) (on_axis lengths.now 1) column top bottom }
+/// The origins at which a piece of this length covers some of the cells.
+fn reach(length: i32, cells: &Range<usize>) -> Span
+    requires length { LengthFits length }
+    requires cells { (cells.now.start ≤ max_cells) × (cells.now.end ≤ max_cells) }
+    ensures { result ≡ reach length cells.now }
 {
-    let left = column as i32 - lengths[0] + 1;
-    let above = top as i32 - lengths[1] + 1;
+    Span {
+        lower: cells.start as i32 - length + 1,
+        upper: cells.end as i32 - 1,
+    }
+}
+
+/// The origins at which the piece covers some cell of a run of rows in a column.
+fn run_box(subject: &Subject<'_>, column: usize, run: &Range<usize>) -> Region
+    requires axes { 2 ≤ subject.now.axes }
+    requires cells { (column < max_cells) × (run.now.start ≤ max_rows) × (run.now.end ≤ max_rows) }
+    ensures { result ≡ run_region (length_seen subject.now 0) (length_seen subject.now 1) column run.now }
+{
+    let [width, height, _] = subject.record().lengths;
     Region {
-        lower: [left, above, -MAX_BOX_END],
-        upper: [column as i32, bottom as i32, MAX_BOX_END],
+        spans: [
+            reach(width, &(column..column + 1)),
+            reach(height, run),
+            ANY_ORIGIN,
+        ],
     }
 }
 
@@ -112,57 +118,72 @@ impl WallRule {
         WallRule { map: *map }
     }
 
+    /// The cells of a row; a row past the last has none.
+    fn row(&self, row: usize) -> &[Cell]
+        ensures { (column : ℕ) → wall (walls_of self.now) row column ≡ is_wall (slice_index_or result.now column OpenT) }
+    {
+        match self.map.as_slice().get(row) {
+            Some(cells) => cells.as_slice(),
+            None => &[],
+        }
+    }
+
     /// Whether a cell is a wall.
     fn is_wall(&self, row: usize, column: usize) -> bool
-        ensures is { result ≡ wall (walls_of self.now) row column }
-        ensures within { result ≡ true → row < max_rows }
+        ensures { result ≡ wall (walls_of self.now) row column }
     {
-        let rows = self.map.as_slice();
-        if row >= rows.len() {
-            return false;
-        }
-        has_wall(rows[row].as_slice(), column)
+        has_wall(self.row(row), column)
     }
 
     /// The first wall in some rows and columns, row by row.
-    fn wall_among(&self, across: Cells, columns: Cells) -> Option<Place>
-        ensures { MatchOption result ((row column : ℕ) → Among across row → Among columns column → wall (walls_of self.now) row column ≡ false) (λ place. Found (walls_of self.now) across columns place) }
+    fn wall_among(&self, rows: &Range<usize>, columns: &Range<usize>) -> Option<Place>
+        ensures { MatchOption result ((row column : ℕ) → Among rows.now row → Among columns.now column → wall (walls_of self.now) row column ≡ false) (λ place. Found (walls_of self.now) rows.now columns.now place) }
     {
-        let rows = self.map.as_slice();
-        for row in across.from..across.to.min(rows.len()) {
-            if let Some(column) = wall_in_row(rows[row].as_slice(), columns) {
+        for row in rows.start..rows.end.min(self.map.len()) {
+            if let Some(column) = wall_in_row(self.row(row), columns) {
                 return Some(Place { row, column });
             }
         }
         None
     }
 
-    /// The first row of the run of walls that goes up from a wall in its column.
-    fn run_top(&self, place: Place) -> usize
+    /// The rows of the whole run of walls that a wall stands in, in its column.
+    fn run_around(&self, place: Place) -> Range<usize>
         requires { wall (walls_of self.now) place.row place.column ≡ true }
-        ensures run { Run (walls_of self.now) place.column result place.row }
-        ensures first { (above : ℕ) → above + 1 ≡ result → wall (walls_of self.now) above place.column ≡ false }
+        ensures { WholeRun (walls_of self.now) place result }
     {
-        let mut top = place.row;
-        while top > 0 && self.is_wall(top - 1, place.column) {
-            top -= 1;
-        }
-        top
+        self.run_start(place)..self.run_end(place)
     }
 
-    /// The last row of the run of walls that goes down from a wall in its column.
-    fn run_bottom(&self, place: Place) -> usize
-        requires start { wall (walls_of self.now) place.row place.column ≡ true }
-        requires within { place.row < max_rows }
-        ensures run { Run (walls_of self.now) place.column place.row result }
-        ensures last { wall (walls_of self.now) (result + 1) place.column ≡ false }
-        ensures within { result < max_rows }
+    // one loop over an iterator of rows would need a contract on the order that they come in, and is no plainer
+    fn run_start(&self, place: Place) -> usize
+        requires { wall (walls_of self.now) place.row place.column ≡ true }
+        ensures order { result ≤ place.row }
+        ensures run { Run (walls_of self.now) place.column result (place.row + 1) }
+        ensures above { (row : ℕ) → row + 1 ≡ result → wall (walls_of self.now) row place.column ≡ false }
     {
-        let mut bottom = place.row;
-        while self.is_wall(bottom + 1, place.column) {
-            bottom += 1;
+        for row in (0..place.row).rev() {
+            if !self.is_wall(row, place.column) {
+                return row + 1;
+            }
         }
-        bottom
+        0
+    }
+
+    #[tactic(auto, unfolding(crate::specs::Walled::wall))]
+    fn run_end(&self, place: Place) -> usize
+        requires { wall (walls_of self.now) place.row place.column ≡ true }
+        ensures order { place.row < result }
+        ensures within { result ≤ max_rows }
+        ensures run { Run (walls_of self.now) place.column place.row result }
+        ensures below { wall (walls_of self.now) result place.column ≡ false }
+    {
+        for row in place.row + 1..MAX_ROWS {
+            if !self.is_wall(row, place.column) {
+                return row;
+            }
+        }
+        MAX_ROWS
     }
 }
 
@@ -174,29 +195,19 @@ impl Sources for WallRule {
 
     ghost given = { λ s k r p. cell_given (walls_of s) k r p };
 
-    fn sources(&self, _axes: usize, _records: &[Piece], _piece: usize) -> usize {
+    fn sources(&self, _subject: &Subject<'_>) -> usize {
         self.map.as_slice().len() * MAX_CELLS
     }
 
-    fn source_box(
-        &self,
-        axes: usize,
-        records: &[Piece],
-        piece: usize,
-        source: usize,
-    ) -> Option<Region> {
+    fn source_box(&self, subject: &Subject<'_>, source: usize) -> Option<Region> {
         let row = source / MAX_CELLS;
         let column = source % MAX_CELLS;
         if !self.is_wall(row, column) {
             return None;
         }
-        let record = &records[piece];
-        let region = run_box(&record.lengths, column, row, row);
-        if region.meets(axes, &record.present) {
-            Some(region)
-        } else {
-            None
-        }
+        let region = run_box(subject, column, &(row..row + 1));
+        let reached = region.meets(subject.axes, &subject.record().present);
+        reached.then_some(region)
     }
 }
 
@@ -214,25 +225,23 @@ impl Rule for WallRule {
         two_axes || self.map.len() == 0
     }
 
-    fn cover(&self, axes: usize, records: &[Piece], piece: usize, point: &Point) -> Option<Region> {
+    fn cover(&self, subject: &Subject<'_>, point: &Point) -> Option<Region> {
         // a board of one axis has no rows
-        if axes < 2 {
+        if subject.axes < 2 {
             return None;
         }
-        let lengths = &records[piece].lengths;
-        let columns = covered(point.origins[0], lengths[0], MAX_CELLS);
-        let rows = covered(point.origins[1], lengths[1], MAX_ROWS);
-        let place = self.wall_among(rows, columns)?;
-        let top = self.run_top(place);
-        let bottom = self.run_bottom(place);
-        Some(run_box(lengths, place.column, top, bottom))
+        let columns = covered(subject, point, 0, MAX_CELLS);
+        let rows = covered(subject, point, 1, MAX_ROWS);
+        let place = self.wall_among(&rows, &columns)?;
+        let run = self.run_around(place);
+        Some(run_box(subject, place.column, &run))
     }
 
-    fn count(&self, axes: usize, records: &[Piece], piece: usize) -> Option<usize> {
-        count_boxes(self, axes, records, piece)
+    fn count(&self, subject: &Subject<'_>) -> Option<usize> {
+        count_boxes(self, subject)
     }
 
-    fn listed(&self, axes: usize, records: &[Piece], piece: usize, number: usize) -> Region {
-        listed_box(self, axes, records, piece, number)
+    fn listed(&self, subject: &Subject<'_>, number: usize) -> Region {
+        listed_box(self, subject, number)
     }
 }

@@ -4,4 +4,4 @@ use Rattle.walls.specs.Walled.{wall}
 use Rattle.walls.proofs.WallRule.wall_among.Given as goal
 
 abbrev pub invariant-loop-row : goal.invariant-loop-row
-invariant-loop-row l = (row : ℕ) → row < l.row → l.initial.row ≤ row → (column : ℕ) → Among l.columns column → wall (walls_of l.self) row column ≡ false
+invariant-loop-row l = (row column : ℕ) → l.rows.start ≤ row → row < l.row → Among l.columns column → wall (walls_of l.self) row column ≡ false

@@ -10,12 +10,12 @@ use Rattle.walls.proofs.WallRuleRule.count.Goals as goal
 pub returns : goal.returns
 returns c =
     let rows = walls_of c.args.self.now in
-    let k = c.args.axes in
-    let records = c.args.records.now in
-    let p = c.args.piece in
-    let asked = c.requires.asked in
+    let s = c.args.subject.now in
+    let k = s.axes in
+    let records = s.records.now in
+    let p = s.piece in
     record {
       number = c.count_boxes.ensures;
       lists = sound_lists (cell_given rows k (room_of k records) p) k (room_of k records) p (walls_shut rows k (room_of k records) p) (cells_of rows)
-          (cells_sound rows k (room_of k records) p asked.suits asked.board.axes_to (limits_seen k records p asked.board asked.known));
+          (cells_sound rows k (room_of k records) p c.requires.suits s.board.axes_to (limits_seen k records p s.board s.known));
     }

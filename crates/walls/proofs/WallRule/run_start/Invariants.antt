@@ -1,0 +1,6 @@
+use Rattle.std.proofs.Common.{◌+◌}
+use Rattle.walls.specs.Held.{Run, walls_of}
+use Rattle.walls.proofs.WallRule.run_start.Given as goal
+
+abbrev pub invariant-loop-row : goal.invariant-loop-row
+invariant-loop-row l = Run (walls_of l.self) l.place.column l.row (l.place.row + 1)
