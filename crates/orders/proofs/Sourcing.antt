@@ -1,5 +1,5 @@
 -- The entries that name a piece give the boxes of a right list.
-use Rattle.std.proofs.Common.{◌≡◌, ℕ, ◌<◌, ◌≤◌, Bool, true, false, List, length, get_or, ◌≤ℤ◌, Option, ap, ◌∙◌, subst, sym, arith}
+use Rattle.std.proofs.Common.{◌≡◌, ℕ, ◌<◌, ◌≤◌, Bool, true, false, List, length, get_or, Option, ap, ◌∙◌, subst, sym, arith}
 use Rattle.std.specs.Bool.{then_some}
 use Rattle.std.proofs.lemmas.Int.{ints}
 use Rattle.std.proofs.lemmas.List.Elements.{All-filter, All-get_or, filter_passes}
@@ -14,12 +14,11 @@ use Rattle.room.specs.declared.region.Region.{Region}
 use Rattle.room.specs.declared.span.Span.{Span}
 use Rattle.room.proofs.Belows.{false_from, passes}
 use Rattle.room.proofs.Cuts.{common_point, decides_int_le}
-use Rattle.room.proofs.Fitting.{limits_seen}
 use Rattle.rule.specs.Gathered.{Shows, Sound}
 use Rattle.rule.specs.Means.{Covers, EndsFit, ListsBox, SameBox, Shuts}
 use Rattle.rule.specs.Subjects.{Suits as BoardSuits, room_seen, shut_there}
 use Rattle.rule.specs.declared.subject.Subject.{Subject}
-use Rattle.rule.proofs.Boxes.{given_some, same_back, same_covers, same_holds, shows_given}
+use Rattle.rule.proofs.Boxes.{bounds_order, given_some, inside_fits, same_back, same_covers, same_holds, shows_given}
 use Rattle.orders.specs.Boxes.{Applies, order_box, order_span, source_of}
 use Rattle.orders.specs.Entries.{entries_of}
 use Rattle.orders.specs.Named.{Legal, Suits, names, naming_of, no_orders}
@@ -64,14 +63,8 @@ module _ (rule : OrderRule) (s : Subject) (suits : BoardSuits (orders_suit (entr
         after_limits = s.board.limits (entry i).after here.after_in (entry i).axis here.axis_in;
       }
 
-  ends_fit : (o : Order) → EndsFit s.axes (order_box (room_seen s) s.piece o)
-  ends_fit o = record {
-    least = λ d h. let l = limits_seen s.axes s.records.now s.piece s.board s.known d h in let i = inside_bounds (room_seen s) s.piece o d in omega (arith, ints);
-    most = λ d h. let l = limits_seen s.axes s.records.now s.piece s.board s.known d h in let i = inside_bounds (room_seen s) s.piece o d in omega (arith, ints);
-  }
-
-  order : (d : ℕ) → d < s.axes → (room_seen s).low s.piece d ≤ℤ (room_seen s).high s.piece d
-  order d h = (limits_seen s.axes s.records.now s.piece s.board s.known d h).order
+  ends_fit : (i : ℕ) → EndsFit s.axes (box i)
+  ends_fit i = inside_fits s (box i) (inside_bounds (room_seen s) s.piece (entry i))
 
   -- all in the box of an entry is shut
   shuts_all : (i : ℕ) → i < length named → Shuts s.axes (room_seen s) s.piece shut (box i)
@@ -93,8 +86,8 @@ module _ (rule : OrderRule) (s : Subject) (suits : BoardSuits (orders_suit (entr
         let opens = (decides_int_le ((box i).from (entry i).axis) ((box i).to (entry i).axis)).0 test in
         subst (ListsBox s.axes (room_seen s) s.piece shut) is (record {
           shuts = shuts_all i h;
-          some = common_point s.axes (box i) (room_seen s) s.piece order (meets_bounds (room_seen s) s.piece (entry i) s.axes order opens);
-          ends = ends_fit (entry i);
+          some = common_point s.axes (box i) (room_seen s) s.piece (bounds_order s) (meets_bounds (room_seen s) s.piece (entry i) s.axes (bounds_order s) opens);
+          ends = ends_fit i;
         });
     every = λ x within is.
         let (i, h, held) = held_by x within is in
@@ -120,7 +113,7 @@ module _ (rule : OrderRule) (s : Subject) (suits : BoardSuits (orders_suit (entr
     pub covers : (i : ℕ) (region : Region) (x : Point) → i < length items → SameBox s.axes (box_of region) (order_box (room_seen s) s.piece (get_or items i no_order)) → Holds s.axes (box_of region) x → Covers s.axes (room_seen s) s.piece shut x (box_of region)
     covers i region x h same held =
         let is = item_box i region same in
-        same_covers (same_back is) (record { holds = same_holds x is held; shuts = shuts_all i (omega (arith, ap length same_items)); ends = ends_fit (entry i) })
+        same_covers (same_back is) (record { holds = same_holds x is held; shuts = shuts_all i (omega (arith, ap length same_items)); ends = ends_fit i })
 
     -- a point that the region does not hold is not in the box
     pub not_held : (i : ℕ) (region : Region) (x : Point) → SameBox s.axes (box_of region) (order_box (room_seen s) s.piece (get_or items i no_order)) → (Holds s.axes (box_of region) x → ⊥) → Holds s.axes (box i) x → ⊥

@@ -6,40 +6,46 @@ ghost use Rattle.std.specs.Prelude.{◌≡◌, ◌<◌};
 ghost use Rattle.room.specs.Seen.{box_of};
 ghost use Rattle.rule.specs.Gathered.{gathered};
 ghost use Rattle.rule.specs.Means.{SameBox};
-ghost use Rattle.strip.specs.Meaning.{StripKept, record_box, strip_shut, strip_source, strip_suits};
+ghost use Rattle.rule.specs.Subjects.{room_seen};
+ghost use Rattle.strip.specs.Meaning.{StripKept, strip_box, strip_shut, strip_source, strip_suits};
 
-use room::piece::Piece;
 use room::point::Point;
 use room::region::Region;
+use room::span::Span;
 use rule::interface::Rule;
 use rule::listing::{Sources, count_boxes, listed_box};
+use rule::subject::Subject;
 
-/// On the axis, no origin of a piece lies in `from..=to`.
+/// On the axis, no origin of a piece lies in the range.
 #[derive(Clone, Copy)]
 pub struct Strip {
     axis: usize,
-    from: i32,
-    to: i32,
+    span: Span,
 }
 
 impl Strip {
-    /// Exactly the placements with no origin in the strip keep it.
+    /// The strip `from..=to` of the axis. Exactly the placements with no origin in it keep the rule.
     pub fn new(axis: usize, from: i32, to: i32) -> Strip
-        ensures held { result ≡ record { axis = axis; from = from; to = to } }
+        ensures held { result ≡ record { axis = axis; span = record { lower = from; upper = to } } }
         ensures kept { StripKept result }
     {
-        Strip { axis, from, to }
+        let span = Span {
+            lower: from,
+            upper: to,
+        };
+        Strip { axis, span }
     }
 
-    /// The bounds of the piece, cut to the strip.
-    fn region(&self, piece: &Piece) -> Region
-        requires { self.now.axis < 3 }
-        ensures { SameBox 3 (box_of result) (record_box self.now piece.now) }
+    /// The bounds of the piece that is asked about, cut to the strip.
+    fn region(&self, subject: &Subject<'_>) -> Region
+        requires { self.now.axis < subject.now.axes }
+        ensures { SameBox subject.now.axes (box_of result) (strip_box self.now (room_seen subject.now) subject.now.piece) }
     {
-        let mut region = piece.bounds();
-        region.lower[self.axis] = region.lower[self.axis].max(self.from);
-        region.upper[self.axis] = region.upper[self.axis].min(self.to);
-        region
+        let bounds = &subject.record().present;
+        let mut span = bounds.spans[self.axis];
+        span.lower = span.lower.max(self.span.lower);
+        span.upper = span.upper.min(self.span.upper);
+        bounds.with_span(self.axis, span)
     }
 }
 
@@ -57,27 +63,17 @@ impl Rule for Strip {
         self.axis < axes
     }
 
-    fn cover(
-        &self,
-        _axes: usize,
-        records: &[Piece],
-        piece: usize,
-        point: &Point,
-    ) -> Option<Region> {
+    fn cover(&self, subject: &Subject<'_>, point: &Point) -> Option<Region> {
         let origin = point.origins[self.axis];
-        if self.from <= origin && origin <= self.to {
-            Some(self.region(&records[piece]))
-        } else {
-            None
-        }
+        self.span.holds(origin).then_some(self.region(subject))
     }
 
-    fn count(&self, axes: usize, records: &[Piece], piece: usize) -> Option<usize> {
-        count_boxes(self, axes, records, piece)
+    fn count(&self, subject: &Subject<'_>) -> Option<usize> {
+        count_boxes(self, subject)
     }
 
-    fn listed(&self, axes: usize, records: &[Piece], piece: usize, number: usize) -> Region {
-        listed_box(self, axes, records, piece, number)
+    fn listed(&self, subject: &Subject<'_>, number: usize) -> Region {
+        listed_box(self, subject, number)
     }
 }
 
@@ -89,23 +85,13 @@ impl Sources for Strip {
 
     ghost given = { strip_source };
 
-    fn sources(&self, _axes: usize, _records: &[Piece], _piece: usize) -> usize {
+    fn sources(&self, _subject: &Subject<'_>) -> usize {
         1
     }
 
-    fn source_box(
-        &self,
-        axes: usize,
-        records: &[Piece],
-        piece: usize,
-        _source: usize,
-    ) -> Option<Region> {
-        let asked = &records[piece];
-        let region = self.region(asked);
-        if region.meets(axes, &asked.present) {
-            Some(region)
-        } else {
-            None
-        }
+    fn source_box(&self, subject: &Subject<'_>, _source: usize) -> Option<Region> {
+        let region = self.region(subject);
+        let bounds = &subject.record().present;
+        region.meets(subject.axes, bounds).then_some(region)
     }
 }
