@@ -12,6 +12,7 @@ use Rattle.text.specs.Split.{items_after, lines_after}
 abbrev pub Lacks : ℕ → List ℕ → Type 0
 Lacks c text = AllByRecursion (λ b. b ≡ c → ⊥) text
 
+-- the same by the test for c
 fails : (c : ℕ) (text : List ℕ) → All (λ b. b ≢ c) text → All (λ b. eqb b c ≡ false) text
 fails c text h = All-weaker (λ b. b ≢ c) (λ b. eqb b c ≡ false) (λ b k. ne_eqb b c k) text h
 
