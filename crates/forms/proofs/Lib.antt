@@ -1,6 +1,6 @@
 pub mod Cells
 pub mod ContentsWithin
-pub mod Counting
 pub mod Extents
 pub mod Front
+pub mod InRange
 pub mod Modes

@@ -2,18 +2,19 @@
 use Rattle.std.specs.Prelude.{◌≡◌, ◌≢◌, ℕ, ◌+◌, ◌*◌, Bool, cond, not, ◌&&◌, List, [], ◌∷◌, map, length, ℤ, pos, Some, None, Ok, Err, codes, Option, Result, ◌==◌, int_le, int_lt, nat_le, slice_index_or}
 use Rattle.std.specs.List.{list_all, range_with_len}
 use Rattle.std.specs.Option.{option_map}
+use Rattle.std.specs.Str.{bytes_eq}
 use Rattle.room.specs.Limits.{max_axes, max_pieces, max_orders, max_rows, max_cells, max_length, extent_fits}
 use Rattle.room.specs.declared.orders.Order.{Order}
 use Rattle.room.specs.declared.piece.Extent.{Extent}
 use Rattle.room.specs.declared.walls.Cell.{Cell}
 use Rattle.room.specs.declared.walls.Cell.TheVariants.{Wall, Open}
-use Rattle.text.specs.Items.{items, after, same}
+use Rattle.text.specs.Items.{items, after}
 use Rattle.text.specs.Numerals.{numeral, numbers}
 use Rattle.forms.specs.declared.contents.Contents.{Contents}
 use Rattle.forms.specs.declared.contents.Mode.{Mode}
 use Rattle.forms.specs.declared.contents.Mode.TheVariants.{Strict, Nonstrict}
 use Rattle.forms.specs.declared.fault.Fault.{Fault}
-use Rattle.forms.specs.declared.fault.Fault.TheVariants.{Form, Range}
+use Rattle.forms.specs.declared.fault.Fault.TheVariants.{Form}
 use Rattle.forms.specs.Outcome.{with_some, judged}
 
 -- the number of a count that is not negative
@@ -27,10 +28,6 @@ between low high z = int_le (pos low) z && int_le z (pos high)
 abbrev pub below : ℕ → ℤ → Bool
 below n z = int_le (pos 0) z && int_lt z (pos n)
 
--- a value whose numbers are in range, or one of them is not
-abbrev pub counted : {A : Type 0} → Bool → A → Result A Fault
-counted fits value = cond fits (Ok value) (Err Range)
-
 -- CONTENTS: the word sheet, the axes, strict or nonstrict, the pieces, the orders, the wall rows
 
 abbrev pub mode_word : Mode → List ℕ
@@ -38,7 +35,7 @@ mode_word Strict = codes "strict"
 mode_word Nonstrict = codes "nonstrict"
 
 abbrev pub mode_of : List ℕ → Option Mode
-mode_of word = cond (same word (mode_word Strict)) (Some Strict) (cond (same word (mode_word Nonstrict)) (Some Nonstrict) None)
+mode_of word = cond (bytes_eq word (mode_word Strict)) (Some Strict) (cond (bytes_eq word (mode_word Nonstrict)) (Some Nonstrict) None)
 
 -- the word is the mode's, or no mode's
 abbrev pub Names : List ℕ → Result Mode Fault → Type 0

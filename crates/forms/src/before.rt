@@ -2,7 +2,8 @@
 
 ghost use Rattle.std.specs.Prelude.{◌≡◌};
 ghost use Rattle.room.specs.declared.orders.Order.{Order as OrderT};
-ghost use Rattle.forms.specs.Forms.{order_fits, order_from, says_before, counted};
+ghost use Rattle.forms.specs.Forms.{order_fits, order_from, says_before};
+ghost use Rattle.forms.specs.Outcome.{in_range};
 
 use crate::counts::count_below;
 use crate::fault::Fault;
@@ -21,7 +22,7 @@ pub struct BeforeLine {
 
 impl BeforeLine {
     fn order(&self, numbers: [i32; 4]) -> Result<Order, Fault>
-        ensures { result ≡ counted (order_fits self.now.axes self.now.pieces numbers) (order_from numbers) }
+        ensures { result ≡ in_range (order_fits self.now.axes self.now.pieces numbers) (order_from numbers) }
     {
         let [before, after, axis, gap] = numbers;
         let order = Order {

@@ -2,7 +2,8 @@
 
 ghost use Rattle.std.specs.Prelude.{◌≡◌, Some};
 ghost use Rattle.std.specs.Option.{option_map};
-ghost use Rattle.forms.specs.Forms.{Names, mode_word, says_contents, contents_items, contents_fit, contents_from, counted};
+ghost use Rattle.forms.specs.Forms.{Names, mode_word, says_contents, contents_items, contents_fit, contents_from};
+ghost use Rattle.forms.specs.Outcome.{in_range};
 ghost use Rattle.forms.specs.Announced.{announced_by};
 ghost use Rattle.forms.specs.declared.contents.Contents.{Contents as ContentsT};
 ghost use Rattle.text.specs.Items.{items};
@@ -81,7 +82,7 @@ impl Announced {
 
     /// The contents, where each number is in its range.
     fn contents(&self) -> Result<Contents, Fault>
-        ensures { result ≡ counted (contents_fit (announced_by self.now)) (contents_from (announced_by self.now)) }
+        ensures { result ≡ in_range (contents_fit (announced_by self.now)) (contents_from (announced_by self.now)) }
     {
         let [pieces, orders, rows] = self.counts;
         Ok(Contents {

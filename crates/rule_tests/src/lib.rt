@@ -140,8 +140,14 @@ mod tests {
             assert_eq!(rt; region.spans[0], span(3, 7));
         }
         assert_eq!(rt; number(asked(1, 2, &records, 0).listed(&both, 2)), 11);
-        assert_eq!(rt; number(asked(1, 2, &records, 0).listed(&both, 999_999_999)), 11);
-        assert_eq!(rt; number(asked(1, 2, &records, 0).listed(&both, 1_000_000_000)), 5);
+        assert_eq!(rt;
+            number(asked(1, 2, &records, 0).listed(&both, 999_999_999)),
+            11
+        );
+        assert_eq!(rt;
+            number(asked(1, 2, &records, 0).listed(&both, 1_000_000_000)),
+            5
+        );
     }
 
     // a piece before, with length 2 and gap 1, and the piece after within 0..6
@@ -252,7 +258,10 @@ mod tests {
         );
         let open = WallRule::new(&ArrayVec::new(ArrayVec::new(Cell::Open)));
         assert!(rt; matches!(suits(&open, 1, 1), Ok(true)));
-        assert_eq!(rt; number(asked(1, 1, &records, 0).cover(&open, &point(0, 0, 0))), 0);
+        assert_eq!(rt;
+            number(asked(1, 1, &records, 0).cover(&open, &point(0, 0, 0))),
+            0
+        );
     }
 
     // each check comes before the next: every line also fails all the checks after its own
@@ -267,7 +276,10 @@ mod tests {
         assert_eq!(rt; number(asked(1, 0, &[unfit], 9).cover(&rule, &far)), 5);
         assert_eq!(rt; number(asked(1, 25, &[unfit], 9).cover(&rule, &far)), 5);
         assert_eq!(rt; number(asked(1, 2, &[unfit], 9).cover(&rule, &far)), 6);
-        assert_eq!(rt; number(asked(1, 2, &[good, unfit], 9).cover(&rule, &far)), 7);
+        assert_eq!(rt;
+            number(asked(1, 2, &[good, unfit], 9).cover(&rule, &far)),
+            7
+        );
         assert_eq!(rt;
             number(asked(1, 2, &[good, good, unfit], 9).cover(&rule, &far)),
             13

@@ -37,7 +37,7 @@ impl<'a> Items<'a> {
         Items { rest: Some(text) }
     }
 
-    /// Takes the next item, which is a number.
+    /// Takes the next item as a number; nothing where none is left, or it is no number.
     pub fn number(&mut self) -> Option<i32>
         ensures number { result ≡ first_number self.old }
         ensures rest { self.new ≡ drop 1 self.old }
@@ -45,7 +45,7 @@ impl<'a> Items<'a> {
         numeral(self.next()?)
     }
 
-    /// The numbers of the items left, which are just as many.
+    /// The items left as numbers; nothing where they are not just as many, or one is no number.
     pub fn numbers<const N: usize>(mut self) -> Option<[i32; N]>
         ensures { result ≡ numbers_of N self.entry }
     {
