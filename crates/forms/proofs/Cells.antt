@@ -1,58 +1,48 @@
 -- The cells of a row, letter by letter.
-use Rattle.std.proofs.Common.{◌≡◌, ℕ, suc, ◌+◌, ◌<◌, ◌≤◌, cond, eqb, ltb, leb, List, [], ◌∷◌, ◌++◌, map, length, get_or, take, drop, Some, None, Ok, Err, codes, Option, sym, refl, ap, ◌∙◌, ⊎_elim, append_assoc, arith}
+use Rattle.std.proofs.Common.{◌≡◌, ℕ, suc, ◌+◌, ◌<◌, ◌≤◌, cond, ltb, List, [], ◌∷◌, ◌++◌, length, get_or, take, drop, Some, None, Ok, Err, codes, Option, sym, refl, ap, ◌∙◌, ⊎_elim, append_assoc, arith}
 use Rattle.std.specs.Option.{option_map}
-use Rattle.std.proofs.lemmas.List.{at_drop_more, map_more, length-take, length_push, take_all, take-append-le}
-use Rattle.std.proofs.lemmas.Bool.{cond-true, cond-false, lt-ltb, le-ltb, lt-leb, le-leb, cases_lt}
+use Rattle.std.proofs.lemmas.List.{at_drop_more, length-take-le, length_push, take_all, take-append-le}
+use Rattle.std.proofs.lemmas.Bool.{cases_lt}
+use Rattle.std.proofs.lemmas.Bool.Decides.{nat_tests}
 use Rattle.room.specs.declared.walls.Cell.{Cell}
-use Rattle.room.specs.declared.walls.Cell.TheVariants.{Wall, Open}
 use Rattle.text.specs.Items.{after}
 use Rattle.forms.specs.declared.fault.Fault.TheVariants.{Range}
-use Rattle.forms.specs.Forms.{letter, cell_of, cells, cell_first, row, row_fits, says_wall}
+use Rattle.forms.specs.Forms.{cell_of, cells, cell_first, row, row_fits, says_wall}
 use Rattle.forms.specs.Outcome.{judged, with_some}
 
--- the cell of a letter, where it is one of the two
-abbrev pub cell_at : ℕ → Cell
-cell_at c = cond (eqb c (letter Wall)) Wall Open
-
+-- cells in front of cells
 abbrev pub put_cells : List Cell → Option (List Cell) → Option (List Cell)
-put_cells cs None = None
-put_cells cs (Some ds) = Some (cs ++ ds)
+put_cells cs o = option_map (λ ds. cs ++ ds) o
 
-pub cell_at_some : (c : ℕ) (x : Cell) → Some x ≡ cell_of c → x ≡ cell_at c
-cell_at_some c x e = grind arith
-
-put_first : (cs : List Cell) (x : Cell) (o : Option (List Cell)) → put_cells (cs ++ (x ∷ [])) o ≡ put_cells cs (cell_first (Some x) o)
+put_first : (cs : List Cell) (x : Cell) (o : Option (List Cell)) → put_cells (cs ++ x ∷ []) o ≡ put_cells cs (cell_first (Some x) o)
 put_first cs x None = refl
 put_first cs x (Some ds) = ap Some (append_assoc cs (x ∷ []) ds)
 
-module _ (letters : List ℕ) (i : ℕ) (h : i < length letters) where
-  -- one letter more is a cell
-  pub cells_again : (x : Cell) → Some x ≡ cell_of (get_or letters i 0) → put_cells (map cell_at (take (i + 1) letters)) (cells (drop (i + 1) letters)) ≡ put_cells (map cell_at (take i letters)) (cells (drop i letters))
-  cells_again x e =
-      ap (λ cs. put_cells cs (cells (drop (i + 1) letters))) (map_more cell_at letters i 0 h ∙ ap (λ y. map cell_at (take i letters) ++ (y ∷ [])) (sym (cell_at_some (get_or letters i 0) x e)))
-      ∙ put_first (map cell_at (take i letters)) x (cells (drop (i + 1) letters))
-      ∙ ap (put_cells (map cell_at (take i letters))) (ap (λ o. cell_first o (cells (drop (i + 1) letters))) e ∙ sym (at_drop_more cells letters i 0 h))
-
-  -- a letter that is none
-  pub cells_stop : None ≡ cell_of (get_or letters i 0) → put_cells (map cell_at (take i letters)) (cells (drop i letters)) ≡ None
-  cells_stop e = ap (put_cells (map cell_at (take i letters))) (at_drop_more cells letters i 0 h ∙ ap (λ o. cell_first o (cells (drop (i + 1) letters))) (sym e))
+-- one letter more is a cell
+pub cells_again : (done : List Cell) (letters : List ℕ) (i : ℕ) (x : Cell) → i < length letters → Some x ≡ cell_of (get_or letters i 0) → put_cells (done ++ x ∷ []) (cells (drop (i + 1) letters)) ≡ put_cells done (cells (drop i letters))
+cells_again done letters i x h e =
+    put_first done x (cells (drop (i + 1) letters))
+    ∙ ap (put_cells done) (ap (λ o. cell_first o (cells (drop (i + 1) letters))) e ∙ sym (at_drop_more cells letters i 0 h))
 
 -- a push keeps the first n items
-pub push_within : {X : Type 0} (n : ℕ) (xs : List X) (x : X) → cond (ltb (length (take n xs)) n) (take n xs ++ (x ∷ [])) (take n xs) ≡ take n (xs ++ (x ∷ []))
+pub push_within : {X : Type 0} (n : ℕ) (xs : List X) (x : X) → cond (ltb (length (take n xs)) n) (take n xs ++ x ∷ []) (take n xs) ≡ take n (xs ++ x ∷ [])
 push_within n xs x = ⊎_elim room full (cases_lt (length xs) n)
   where
-    room : length xs < n → cond (ltb (length (take n xs)) n) (take n xs ++ (x ∷ [])) (take n xs) ≡ take n (xs ++ (x ∷ []))
+    room : length xs < n → cond (ltb (length (take n xs)) n) (take n xs ++ x ∷ []) (take n xs) ≡ take n (xs ++ x ∷ [])
     room h =
-        cond-true _ _ _ (lt-ltb (length (take n xs)) n (omega (arith, length-take n xs)))
-        ∙ ap (λ l. l ++ (x ∷ [])) (take_all n xs (omega arith))
-        ∙ sym (take_all n (xs ++ (x ∷ [])) (omega (arith, length_push xs x)))
+        let all : take n xs ≡ xs = take_all n xs (omega arith) in
+        let more : take n (xs ++ x ∷ []) ≡ xs ++ x ∷ [] = take_all n (xs ++ x ∷ []) (omega (arith, length_push xs x)) in
+        grind (arith, nat_tests)
 
-    full : n ≤ length xs → cond (ltb (length (take n xs)) n) (take n xs ++ (x ∷ [])) (take n xs) ≡ take n (xs ++ (x ∷ []))
-    full h = cond-false _ _ _ (le-ltb (length (take n xs)) n (omega (arith, length-take n xs))) ∙ sym (take-append-le n xs (x ∷ []) h)
+    full : n ≤ length xs → cond (ltb (length (take n xs)) n) (take n xs ++ x ∷ []) (take n xs) ≡ take n (xs ++ x ∷ [])
+    full h =
+        let some : take n (xs ++ x ∷ []) ≡ take n xs = take-append-le n xs (x ∷ []) h in
+        let many : length (take n xs) ≡ n = length-take-le n xs h in
+        grind (arith, nat_tests)
 
 length_first : (c : ℕ) (cs : List ℕ) (o : Option Cell) (p : Option (List Cell)) (ds : List Cell) → ((es : List Cell) → p ≡ Some es → length es ≡ length cs) → cell_first o p ≡ Some ds → length ds ≡ length (c ∷ cs)
-length_first c cs None p ds ih e = absurd (let z : ◌≡◌ {A = ℕ} 0 1 = cc in omega arith)
-length_first c cs (Some x) None ds ih e = absurd (let z : ◌≡◌ {A = ℕ} 0 1 = cc in omega arith)
+length_first c cs None p ds ih e = absurd cc
+length_first c cs (Some x) None ds ih e = absurd cc
 length_first c cs (Some x) (Some es) ds ih e = let k : ds ≡ x ∷ es = cc in ap length k ∙ ap (λ n. suc n) (ih es refl)
 
 -- a row has as many cells as letters
@@ -64,21 +54,24 @@ row_some : (letters : List ℕ) → 0 < length letters → row letters ≡ cells
 row_some [] h = absurd (omega arith)
 row_some (c ∷ cs) h = refl
 
-from_cells : (letters : List ℕ) (xs : List Cell) (o : Option (List Cell)) → cells letters ≡ o → Some xs ≡ option_map (take 64) o → judged o row_fits (λ cs. cs) ≡ cond (leb (length letters) 64) (Ok xs) (Err Range)
-from_cells letters xs None e h = absurd (let z : ◌≡◌ {A = ℕ} 0 1 = cc in omega arith)
-from_cells letters xs (Some ds) e h = ⊎_elim many few (cases_lt 64 (length letters))
-  where
-    many : 64 < length letters → cond (leb (length ds) 64) (Ok ds) (Err Range) ≡ cond (leb (length letters) 64) (Ok xs) (Err Range)
-    many m = cond-false _ _ _ (lt-leb (length ds) 64 (omega (arith, length_cells letters ds e))) ∙ sym (cond-false _ _ _ (lt-leb (length letters) 64 m))
-
-    few : length letters ≤ 64 → cond (leb (length ds) 64) (Ok ds) (Err Range) ≡ cond (leb (length letters) 64) (Ok xs) (Err Range)
-    few m =
-        let t : xs ≡ take 64 ds = cc in
-        cond-true _ _ _ (le-leb (length ds) 64 (omega (arith, length_cells letters ds e))) ∙ ap Ok (sym (t ∙ take_all 64 ds (omega (arith, length_cells letters ds e)))) ∙ sym (cond-true _ _ _ (le-leb (length letters) 64 m))
-
 -- what a wall line says, once its letters are read
-pub wall_said : (body letters : List ℕ) (xs : List Cell) → Some letters ≡ after (codes "wall ") body → 0 < length letters → Some xs ≡ option_map (take 64) (cells letters) → says_wall body ≡ cond (leb (length letters) 64) (Ok xs) (Err Range)
-wall_said body letters xs word some read =
-    ap (λ o. judged (with_some o row) row_fits (λ cs. cs)) (sym word)
-    ∙ ap (λ o. judged o row_fits (λ cs. cs)) (row_some letters some)
-    ∙ from_cells letters xs (cells letters) refl read
+module _ (body letters : List ℕ) (xs : List Cell) (word : Some letters ≡ after (codes "wall ") body) (some : 0 < length letters) (read : Some xs ≡ option_map (take 64) (cells letters)) where
+  row_said : says_wall body ≡ judged (cells letters) row_fits (λ cs. cs)
+  row_said = ap (λ o. judged (with_some o row) row_fits (λ cs. cs)) (sym word) ∙ ap (λ o. judged o row_fits (λ cs. cs)) (row_some letters some)
+
+  pub wall_wide : 64 < length letters → Err Range ≡ says_wall body
+  wall_wide m = sym (row_said ∙ wide (cells letters) refl read)
+    where
+      wide : (o : Option (List Cell)) → cells letters ≡ o → Some xs ≡ option_map (take 64) o → judged o row_fits (λ cs. cs) ≡ Err Range
+      wide None e h = absurd cc
+      wide (Some ds) e h = let many = length_cells letters ds e in grind (arith, nat_tests)
+
+  pub wall_row : length letters ≤ 64 → Ok xs ≡ says_wall body
+  wall_row m = sym (row_said ∙ fits (cells letters) refl read)
+    where
+      fits : (o : Option (List Cell)) → cells letters ≡ o → Some xs ≡ option_map (take 64) o → judged o row_fits (λ cs. cs) ≡ Ok xs
+      fits None e h = absurd cc
+      fits (Some ds) e h =
+          let few = length_cells letters ds e in
+          let all : take 64 ds ≡ ds = take_all 64 ds (omega arith) in
+          grind (arith, nat_tests)

@@ -1,27 +1,22 @@
 -- What a contents line says is within the limits of a sheet.
-use Rattle.std.proofs.Common.{◌≡◌, ℕ, ◌≤◌, Bool, true, cond, List, get_or, ℤ, pos, Some, None, Ok, Err, codes, Option, refl, subst, arith}
-use Rattle.std.proofs.lemmas.Bool.{and_parts, leb-true, cond_both}
+use Rattle.std.proofs.Common.{◌≡◌, ℕ, ◌≤◌, Bool, true, List, get_or, ℤ, pos, Some, None, Ok, codes, Option, sym, refl, subst}
+use Rattle.std.proofs.lemmas.Bool.{and_parts, leb-true}
 use Rattle.text.specs.Items.{items, after}
 use Rattle.forms.specs.declared.contents.Contents.{Contents}
-use Rattle.forms.specs.declared.fault.Fault.TheVariants.{Range}
 use Rattle.forms.specs.Forms.{count, between, Announced, contents_items, contents_fit, contents_from, says_contents}
 use Rattle.forms.specs.Within.{Within}
 use Rattle.forms.specs.Outcome.{with_some, judged}
+use Rattle.forms.proofs.InRange.{passed}
 
 -- a line that is judged good has its form and its ranges
 pub judged_ok : {A B : Type 0} (o : Option A) (fits : A → Bool) (value : A → B) (y : B) → judged o fits value ≡ Ok y → (x : A) × (o ≡ Some x) × (fits x ≡ true) × (value x ≡ y)
-judged_ok None fits value y e = absurd (let z : ◌≡◌ {A = ℕ} 0 1 = cc in omega arith)
-judged_ok {A} (Some x) fits value y e = split e
-  where
-    split : cond (fits x) (Ok (value x)) (Err Range) ≡ Ok y → (w : A) × (Some x ≡ Some w) × (fits w ≡ true) × (value w ≡ y)
-    split = cond_both (fits x) (Ok (value x)) (Err Range) (λ r. r ≡ Ok y → (w : A) × (Some x ≡ Some w) × (fits w ≡ true) × (value w ≡ y))
-        (λ h k. let v : value x ≡ y = cc in (x, refl, h, v))
-        (λ h k. absurd (let z : ◌≡◌ {A = ℕ} 0 1 = cc in omega arith))
+judged_ok None fits value y e = absurd cc
+judged_ok (Some x) fits value y e = let p = passed (fits x) (value x) y (sym e) in (x, refl, p.0, p.1)
 
 -- a number between two counts is a count between them
 pub between_count : (low high : ℕ) (z : ℤ) → between low high z ≡ true → (low ≤ count z) × (count z ≤ high)
 between_count low high (pos n) e = let p = and_parts _ _ e in (leb-true low n p.0, leb-true n high p.1)
-between_count low high (ℤ.negsuc n) e = absurd (let z : ◌≡◌ {A = ℕ} 0 1 = cc in omega arith)
+between_count low high (ℤ.negsuc n) e = absurd cc
 
 -- numbers that are in range give contents within the limits
 fit_within : (a : Announced) → contents_fit a ≡ true → Within (contents_from a)

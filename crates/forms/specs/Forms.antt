@@ -1,18 +1,20 @@
 -- What each kind of line says, from the text of the line: first its form, then the ranges of its numbers.
-use Rattle.std.specs.Prelude.{ℕ, ◌+◌, ◌*◌, Bool, true, cond, not, ◌&&◌, List, [], ◌∷◌, map, length, ℤ, pos, Some, None, codes, Option, Result, ◌==◌, int_le, int_lt, nat_le, slice_index_or}
-use Rattle.std.specs.List.{range_with_len}
+use Rattle.std.specs.Prelude.{◌≡◌, ◌≢◌, ℕ, ◌+◌, ◌*◌, Bool, cond, not, ◌&&◌, List, [], ◌∷◌, map, length, ℤ, pos, Some, None, Ok, Err, codes, Option, Result, ◌==◌, int_le, int_lt, nat_le, slice_index_or}
+use Rattle.std.specs.List.{list_all, range_with_len}
 use Rattle.std.specs.Option.{option_map}
+use Rattle.std.specs.Str.{bytes_eq}
 use Rattle.room.specs.Limits.{max_axes, max_pieces, max_orders, max_rows, max_cells, max_length, extent_fits}
 use Rattle.room.specs.declared.orders.Order.{Order}
 use Rattle.room.specs.declared.piece.Extent.{Extent}
 use Rattle.room.specs.declared.walls.Cell.{Cell}
 use Rattle.room.specs.declared.walls.Cell.TheVariants.{Wall, Open}
-use Rattle.text.specs.Items.{items, after, same}
+use Rattle.text.specs.Items.{items, after}
 use Rattle.text.specs.Numerals.{numeral, numbers}
 use Rattle.forms.specs.declared.contents.Contents.{Contents}
 use Rattle.forms.specs.declared.contents.Mode.{Mode}
 use Rattle.forms.specs.declared.contents.Mode.TheVariants.{Strict, Nonstrict}
 use Rattle.forms.specs.declared.fault.Fault.{Fault}
+use Rattle.forms.specs.declared.fault.Fault.TheVariants.{Form}
 use Rattle.forms.specs.Outcome.{with_some, judged}
 
 -- the number of a count that is not negative
@@ -33,7 +35,12 @@ mode_word Strict = codes "strict"
 mode_word Nonstrict = codes "nonstrict"
 
 abbrev pub mode_of : List ℕ → Option Mode
-mode_of word = cond (same word (mode_word Strict)) (Some Strict) (cond (same word (mode_word Nonstrict)) (Some Nonstrict) None)
+mode_of word = cond (bytes_eq word (mode_word Strict)) (Some Strict) (cond (bytes_eq word (mode_word Nonstrict)) (Some Nonstrict) None)
+
+-- the word is the mode's, or no mode's
+abbrev pub Names : List ℕ → Result Mode Fault → Type 0
+Names word (Ok m) = word ≡ mode_word m
+Names word (Err fault) = (fault ≡ Form) × ((m : Mode) → word ≢ mode_word m)
 
 -- the announced axes and mode, and the numbers of pieces, orders and rows, in this order
 pub record Announced : Type 0 where
@@ -84,8 +91,7 @@ abbrev pub extents : ℕ → List ℤ → List Extent
 extents axes ns = map (extent_at axes ns) (range_with_len 0 axes)
 
 abbrev pub extents_fit : List Extent → Bool
-extents_fit [] = true
-extents_fit (e ∷ es) = extent_fits e && extents_fit es
+extents_fit es = list_all extent_fits es
 
 abbrev pub says_piece : ℕ → List ℕ → Result (List Extent) Fault
 says_piece axes body =

@@ -15,7 +15,11 @@ abbrev pub with_some : {A B : Type 0} → Option A → (A → Option B) → Opti
 with_some None f = None
 with_some (Some x) f = f x
 
+-- a value whose numbers are in range, or one of them is not
+abbrev pub in_range : {A : Type 0} → Bool → A → Result A Fault
+in_range fits value = cond fits (Ok value) (Err Range)
+
 -- a line that is not of its form is faulty; one that is, where its numbers are out of range
 abbrev pub judged : {A B : Type 0} → Option A → (A → Bool) → (A → B) → Result B Fault
 judged None fits value = Err Form
-judged (Some x) fits value = cond (fits x) (Ok (value x)) (Err Range)
+judged (Some x) fits value = in_range (fits x) (value x)

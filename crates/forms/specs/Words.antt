@@ -1,13 +1,8 @@
 -- Lines by their first word.
-use Rattle.std.specs.Prelude.{◌≡◌, ℕ, List, ◌++◌, Some, None, codes, Option, MatchOption, ◌≢◌}
-use Rattle.std.specs.Borrow.{Bor}
+use Rattle.std.specs.Prelude.{◌≡◌, ℕ, List, Some, None, codes, Option}
 use Rattle.text.specs.Items.{after}
 use Rattle.forms.specs.declared.line.Line.{Line}
 use Rattle.forms.specs.declared.line.Line.TheVariants.{Contents, Piece, Before, Wall}
-
--- the text that follows the word, where the body begins with it
-abbrev pub Begins : List ℕ → List ℕ → Option (Bor (List ℕ)) → Type 0
-Begins word body r = MatchOption r ((rest : List ℕ) → body ≢ word ++ rest) (λ t. body ≡ word ++ t.now)
 
 -- the text of a line of each kind, where it is of that kind
 abbrev pub contents_text : Option Line → Option (List ℕ)

@@ -3,14 +3,15 @@
 ghost use Rattle.std.specs.Prelude.{◌≡◌};
 ghost use Rattle.room.specs.declared.orders.Order.{Order as OrderT};
 ghost use Rattle.forms.specs.Forms.{order_fits, order_from, says_before};
+ghost use Rattle.forms.specs.Outcome.{in_range};
 
-use crate::counts::{count, is_below, is_between};
+use crate::counts::count_below;
 use crate::fault::Fault;
 use crate::form::LineForm;
 use crate::line::{Line, classify};
 use room::limits::MAX_LENGTH;
 use room::orders::Order;
-use text::numerals::{Numbers, numbers};
+use text::items::Items;
 
 /// A line of an order in a room of this many axes and pieces.
 #[derive(Drop)]
@@ -20,25 +21,21 @@ pub struct BeforeLine {
 }
 
 impl BeforeLine {
-    fn fits(&self, found: &Numbers) -> bool
-        ensures { result ≡ order_fits self.now.axes self.now.pieces found.now }
+    fn order(&self, numbers: [i32; 4]) -> Result<Order, Fault>
+        ensures { result ≡ in_range (order_fits self.now.axes self.now.pieces numbers) (order_from numbers) }
     {
-        is_below(&found[0], self.pieces)
-            && is_below(&found[1], self.pieces)
-            && count(&found[0]) != count(&found[1])
-            && is_below(&found[2], self.axes)
-            && is_between(&found[3], 0, MAX_LENGTH as usize)
-    }
-}
-
-fn order(found: &Numbers) -> Order
-    ensures { result ≡ order_from found.now }
-{
-    Order {
-        before: count(&found[0]),
-        after: count(&found[1]),
-        axis: count(&found[2]),
-        gap: found[3],
+        let [before, after, axis, gap] = numbers;
+        let order = Order {
+            before: count_below(before, self.pieces)?,
+            after: count_below(after, self.pieces)?,
+            axis: count_below(axis, self.axes)?,
+            gap,
+        };
+        if order.before != order.after && (0..=MAX_LENGTH).contains(&gap) {
+            Ok(order)
+        } else {
+            Err(Fault::Range)
+        }
     }
 }
 
@@ -55,13 +52,7 @@ impl LineForm for BeforeLine {
         let Some(Line::Before(text)) = classify(body) else {
             return Err(Fault::Form);
         };
-        let Some(found) = numbers(Some(text), 4) else {
-            return Err(Fault::Form);
-        };
-        if self.fits(&found) {
-            Ok(order(&found))
-        } else {
-            Err(Fault::Range)
-        }
+        let numbers = Items::new(text).numbers().ok_or(Fault::Form)?;
+        self.order(numbers)
     }
 }

@@ -1,21 +1,21 @@
 //! The contents line: `sheet`, the axes, `strict` or `nonstrict`, and the numbers of pieces, orders and wall rows.
 
-ghost use Rattle.std.specs.Prelude.{◌≡◌, Some, MatchOption, ◌≢◌};
+ghost use Rattle.std.specs.Prelude.{◌≡◌, Some};
 ghost use Rattle.std.specs.Option.{option_map};
-ghost use Rattle.forms.specs.Forms.{mode_word, says_contents, contents_items, contents_fit, contents_from};
+ghost use Rattle.forms.specs.Forms.{Names, mode_word, says_contents, contents_items, contents_fit, contents_from};
+ghost use Rattle.forms.specs.Outcome.{in_range};
 ghost use Rattle.forms.specs.Announced.{announced_by};
 ghost use Rattle.forms.specs.declared.contents.Contents.{Contents as ContentsT};
 ghost use Rattle.text.specs.Items.{items};
 
-use crate::counts::{count, is_between};
+use crate::counts::count_within;
 use crate::fault::Fault;
 use crate::form::LineForm;
 use crate::line::{Line, classify};
 use room::limits::{MAX_AXES, MAX_ORDERS, MAX_PIECES, MAX_ROWS};
 use std::fmt;
 use std::fmt::Display;
-use text::items::split_item;
-use text::numerals::{Numbers, numbers, numeral};
+use text::items::Items;
 
 /// Whether a piece of length 0 can overlap another: strict, it can.
 #[derive(Clone, Copy)]
@@ -35,6 +35,20 @@ impl Display for Mode {
     }
 }
 
+impl<'a> TryFrom<&'a [u8]> for Mode {
+    type Error = Fault;
+
+    ghost try_from_gives = { λ word mode. Names word.now mode };
+
+    fn try_from(word: &'a [u8]) -> Result<Self, Fault> {
+        match word {
+            b"strict" => Ok(Mode::Strict),
+            b"nonstrict" => Ok(Mode::Nonstrict),
+            _ => Err(Fault::Form),
+        }
+    }
+}
+
 /// What the first line of a sheet announces.
 #[derive(Clone, Copy)]
 pub struct Contents {
@@ -50,57 +64,40 @@ pub struct Contents {
 pub struct Announced {
     axes: i32,
     mode: Mode,
-    counts: Numbers,
-}
-
-fn mode_of(word: &[u8]) -> Option<Mode>
-    ensures { MatchOption result ((m : Mode) → word.now ≢ mode_word m) (λ m. word.now ≡ mode_word m) }
-{
-    match word {
-        b"strict" => Some(Mode::Strict),
-        b"nonstrict" => Some(Mode::Nonstrict),
-        _ => None,
-    }
-}
-
-fn split_contents(text: &[u8]) -> Option<Announced>
-    ensures { option_map announced_by result ≡ contents_items (items text.now) }
-{
-    let (axes, rest) = split_item(text);
-    let (mode, rest) = split_item(rest?);
-    Some(Announced {
-        axes: numeral(axes)?,
-        mode: mode_of(mode)?,
-        counts: numbers(rest, 3)?,
-    })
+    counts: [i32; 3],
 }
 
 impl Announced {
-    fn fits(&self) -> bool
-        ensures { result ≡ contents_fit (announced_by self.now) }
+    /// What the items of a contents line announce; nothing where they are not of its form.
+    fn read(text: &[u8]) -> Option<Self>
+        ensures { option_map announced_by result ≡ contents_items (items text.now) }
     {
-        is_between(&self.axes, 1, MAX_AXES)
-            && is_between(&self.counts[0], 1, MAX_PIECES)
-            && is_between(&self.counts[1], 0, MAX_ORDERS)
-            && is_between(&self.counts[2], 0, MAX_ROWS)
+        let mut items = Items::new(text);
+        Some(Announced {
+            axes: items.number()?,
+            mode: Mode::try_from(items.next()?).ok()?,
+            counts: items.numbers()?,
+        })
     }
 
-    fn contents(&self) -> Contents
-        ensures { result ≡ contents_from (announced_by self.now) }
+    /// The contents, where each number is in its range.
+    fn contents(&self) -> Result<Contents, Fault>
+        ensures { result ≡ in_range (contents_fit (announced_by self.now)) (contents_from (announced_by self.now)) }
     {
-        Contents {
-            axes: count(&self.axes),
+        let [pieces, orders, rows] = self.counts;
+        Ok(Contents {
+            axes: count_within(self.axes, 1, MAX_AXES)?,
             mode: self.mode,
-            pieces: count(&self.counts[0]),
-            orders: count(&self.counts[1]),
-            rows: count(&self.counts[2]),
-        }
+            pieces: count_within(pieces, 1, MAX_PIECES)?,
+            orders: count_within(orders, 0, MAX_ORDERS)?,
+            rows: count_within(rows, 0, MAX_ROWS)?,
+        })
     }
 }
 
 /// The first line of a sheet.
 #[derive(Drop)]
-pub struct ContentsLine {}
+pub struct ContentsLine;
 
 impl LineForm for ContentsLine {
     type Item = Contents;
@@ -115,13 +112,6 @@ impl LineForm for ContentsLine {
         let Some(Line::Contents(text)) = classify(body) else {
             return Err(Fault::Form);
         };
-        let Some(announced) = split_contents(text) else {
-            return Err(Fault::Form);
-        };
-        if announced.fits() {
-            Ok(announced.contents())
-        } else {
-            Err(Fault::Range)
-        }
+        Announced::read(text).ok_or(Fault::Form)?.contents()
     }
 }

@@ -1,25 +1,28 @@
 //! Numbers that count something.
 
-ghost use Rattle.std.specs.Prelude.{◌≡◌, ◌<◌};
+ghost use Rattle.std.specs.Prelude.{◌≡◌};
 ghost use Rattle.forms.specs.Forms.{count as count_of, between, below};
+ghost use Rattle.forms.specs.Outcome.{in_range};
 
-/// Whether a number lies within `low` to `high`.
-pub fn is_between(n: &i32, low: usize, high: usize) -> bool
-    ensures { result ≡ between low high n.now }
+use crate::fault::Fault;
+
+/// A number as a count, where it lies within `low` to `high`.
+pub fn count_within(n: i32, low: usize, high: usize) -> Result<usize, Fault>
+    ensures { result ≡ in_range (between low high n) (count_of n) }
 {
-    *n >= 0 && low <= *n as usize && *n as usize <= high
+    match usize::try_from(n) {
+        Ok(count) if (low..=high).contains(&count) => Ok(count),
+        _ => Err(Fault::Range),
+    }
 }
 
-/// Whether a number lies within 0 to one below `limit`.
-pub fn is_below(n: &i32, limit: usize) -> bool
-    ensures { result ≡ below limit n.now }
+/// A number as a count, where it lies within 0 to one below `limit`.
+// Not `count_within` of 0 to `limit - 1`: below a limit of 0 there is no count.
+pub fn count_below(n: i32, limit: usize) -> Result<usize, Fault>
+    ensures { result ≡ in_range (below limit n) (count_of n) }
 {
-    *n >= 0 && (*n as usize) < limit
-}
-
-/// The number as a count; 0 where it is negative.
-pub fn count(n: &i32) -> usize
-    ensures { result ≡ count_of n.now }
-{
-    if *n < 0 { 0 } else { *n as usize }
+    match usize::try_from(n) {
+        Ok(count) if count < limit => Ok(count),
+        _ => Err(Fault::Range),
+    }
 }

@@ -1,9 +1,11 @@
 //! A piece line: `piece`, a length for each axis, then a lower and an upper end for each axis.
 
-ghost use Rattle.std.specs.Prelude.{◌≡◌, ◌<◌, ◌≤◌, List};
+ghost use Rattle.std.specs.Prelude.{◌≡◌, ◌*◌, ◌≤◌, List};
+ghost use Rattle.std.specs.Option.{option_map};
 ghost use Rattle.room.specs.Listed.{listed};
 ghost use Rattle.room.specs.declared.piece.Extent.{Extent as ExtentT};
-ghost use Rattle.forms.specs.Forms.{extent_at, extents as extents_of, extents_fit, says_piece};
+ghost use Rattle.text.specs.Numerals.{numbers};
+ghost use Rattle.forms.specs.Forms.{extents as extents_of, extents_fit, says_piece};
 
 use crate::fault::Fault;
 use crate::form::LineForm;
@@ -11,7 +13,7 @@ use crate::line::{Line, classify};
 use room::array_vec::ArrayVec;
 use room::limits::MAX_AXES;
 use room::piece::{Extent, NO_EXTENT};
-use text::numerals::{Numbers, numbers};
+use text::items::Items;
 
 /// The extents of a piece, one for each axis.
 pub type Extents = ArrayVec<Extent, MAX_AXES>;
@@ -23,39 +25,33 @@ pub struct PieceLine {
     ghost few: { axes ≤ 3 },
 }
 
-/// The extent on one axis: a length, then past all lengths a pair of ends.
-fn extent(axes: usize, axis: usize, numbers: &Numbers) -> Extent
-    requires { (axes ≤ 3) × (axis < axes) }
-    ensures { result ≡ extent_at axes numbers.now axis }
-{
-    Extent {
-        length: numbers[axis],
-        lower: numbers[axes + 2 * axis],
-        upper: numbers[axes + 2 * axis + 1],
+impl PieceLine {
+    /// The extents that the items of a line give: a length for each axis, then a pair of ends for each.
+    fn extents(&self, mut items: Items<'_>) -> Option<Extents>
+        ensures { option_map (λ es. listed es) result ≡ option_map (extents_of self.now.axes) (numbers (3 * self.now.axes) items.entry) }
+    {
+        let mut lengths: ArrayVec<i32, MAX_AXES> = ArrayVec::new(0);
+        for _ in 0..self.axes {
+            let _ = lengths.push(items.number()?);
+        }
+        let mut extents = ArrayVec::new(NO_EXTENT);
+        for &length in lengths.as_slice() {
+            let lower = items.number()?;
+            let upper = items.number()?;
+            let _ = extents.push(Extent {
+                length,
+                lower,
+                upper,
+            });
+        }
+        items.next().is_none().then_some(extents)
     }
-}
-
-/// The extents that the numbers of a line give.
-fn extents(axes: usize, numbers: &Numbers) -> Extents
-    requires { axes ≤ 3 }
-    ensures { listed result ≡ extents_of axes numbers.now }
-{
-    let mut extents = ArrayVec::new(NO_EXTENT);
-    for axis in 0..axes {
-        let _ = extents.push(extent(axes, axis, numbers));
-    }
-    extents
 }
 
 fn all_fit(extents: &[Extent]) -> bool
     ensures { result ≡ extents_fit extents.now }
 {
-    for extent in extents {
-        if !extent.fits() {
-            return false;
-        }
-    }
-    true
+    extents.iter().all(Extent::fits)
 }
 
 impl LineForm for PieceLine {
@@ -71,10 +67,7 @@ impl LineForm for PieceLine {
         let Some(Line::Piece(text)) = classify(body) else {
             return Err(Fault::Form);
         };
-        let Some(found) = numbers(Some(text), 3 * self.axes) else {
-            return Err(Fault::Form);
-        };
-        let extents = extents(self.axes, &found);
+        let extents = self.extents(Items::new(text)).ok_or(Fault::Form)?;
         if all_fit(extents.as_slice()) {
             Ok(extents)
         } else {

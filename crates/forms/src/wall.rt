@@ -15,8 +15,9 @@ use room::walls::{Cell, Row};
 
 /// A line of a wall row.
 #[derive(Drop)]
-pub struct WallLine {}
+pub struct WallLine;
 
+// No `TryFrom` of the room's `Cell`: it would stand in `room`, which knows nothing of the letters of a sheet.
 fn cell(letter: u8) -> Option<Cell>
     ensures { result ≡ cell_of letter }
 {
@@ -51,16 +52,14 @@ impl LineForm for WallLine {
         let Some(Line::Wall(letters)) = classify(body) else {
             return Err(Fault::Form);
         };
-        let Some(row) = cells(letters) else {
-            return Err(Fault::Form);
-        };
-        let too_wide = letters.len() > MAX_CELLS;
+        let row = cells(letters).ok_or(Fault::Form)?;
         if letters.is_empty() {
-            Err(Fault::Form)
-        } else if too_wide {
-            Err(Fault::Range)
-        } else {
-            Ok(row)
+            return Err(Fault::Form);
         }
+        let too_wide = letters.len() > MAX_CELLS;
+        if too_wide {
+            return Err(Fault::Range);
+        }
+        Ok(row)
     }
 }

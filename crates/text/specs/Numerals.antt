@@ -35,3 +35,8 @@ numbers zero [] = Some []
 numbers zero (item ∷ more) = None
 numbers (suc n) [] = None
 numbers (suc n) (item ∷ more) = put_first (numeral item) (numbers n more)
+
+-- the number of the first item
+abbrev pub first_number : List (List ℕ) → Option ℤ
+first_number [] = None
+first_number (item ∷ more) = numeral item
