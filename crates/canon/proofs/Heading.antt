@@ -84,11 +84,13 @@ module _ (c : Contents) (h : Within c) where
   items_back : contents_items (items (signed_decimal (pos c.axes) ++ (32 ∷ mode_on))) ≡ Some said
   unfolding mode_on said
   items_back =
-      ap contents_items (items_parted (signed_decimal (pos c.axes)) mode_on (signed_whole (pos c.axes) small_axes))
-      ∙ ap (λ more. contents_items (signed_decimal (pos c.axes) ∷ more)) (items_parted (mode_word c.mode) (signed_decimal (pos c.pieces) ++ flat_map spaced (pos c.orders ∷ (pos c.rows ∷ []))) (mode_whole c.mode))
-      ∙ ap (λ a. announced a (mode_of (mode_word c.mode)) (numbers 3 (items (signed_decimal (pos c.pieces) ++ flat_map spaced (pos c.orders ∷ (pos c.rows ∷ [])))))) (numeral_signed (pos c.axes) small_axes)
-      ∙ ap (λ m. announced (Some (pos c.axes)) m (numbers 3 (items (signed_decimal (pos c.pieces) ++ flat_map spaced (pos c.orders ∷ (pos c.rows ∷ [])))))) (mode_some (mode_word c.mode) c.mode refl)
-      ∙ ap (announced (Some (pos c.axes)) (Some c.mode)) (numbers_back (pos c.pieces) (pos c.orders ∷ (pos c.rows ∷ [])) small_counts.0 small_counts.1)
+      rw (
+        items_parted (signed_decimal (pos c.axes)) mode_on (signed_whole (pos c.axes) small_axes),
+        items_parted (mode_word c.mode) (signed_decimal (pos c.pieces) ++ flat_map spaced (pos c.orders ∷ (pos c.rows ∷ []))) (mode_whole c.mode),
+        numeral_signed (pos c.axes) small_axes,
+        mode_some (mode_word c.mode) c.mode refl,
+        numbers_back (pos c.pieces) (pos c.orders ∷ (pos c.rows ∷ [])) small_counts.0 small_counts.1,
+      )
 
   good : contents_fit said ≡ true
   unfolding said
@@ -101,7 +103,4 @@ module _ (c : Contents) (h : Within c) where
 
   pub heading_back : says_contents (contents_body c) ≡ Ok c
   unfolding mode_on said
-  heading_back =
-      ap (λ o. judged (with_some o (λ text. contents_items (items text))) contents_fit contents_from) (after_front (codes "sheet ") (signed_decimal (pos c.axes) ++ (32 ∷ mode_on)))
-      ∙ ap (λ o. judged o contents_fit contents_from) items_back
-      ∙ cond-true _ _ _ good
+  heading_back = rw (items_back, good)

@@ -1,5 +1,4 @@
 pub mod Heading
-pub mod Joining
 pub mod Lines
 pub mod Numbers
 pub mod Orders

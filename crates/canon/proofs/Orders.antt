@@ -67,7 +67,4 @@ module _ (axes pieces : ℕ) (few_axes : axes ≤ 3) (few_pieces : pieces ≤ 24
       (within_gap o.gap h.gap_from h.gap_to)
 
   pub order_back : says_before axes pieces (order_body o) ≡ Ok o
-  order_back =
-      ap (λ t. judged (with_some t (λ text. numbers 4 (items text))) (order_fits axes pieces) order_from) (after_front (codes "before ") (signed_decimal (pos o.before) ++ flat_map spaced (more_numbers o)))
-      ∙ ap (λ ns. judged ns (order_fits axes pieces) order_from) (numbers_back (pos o.before) (more_numbers o) small_first small_more)
-      ∙ cond-true _ _ _ good
+  order_back = rw (numbers_back (pos o.before) (more_numbers o) small_first small_more, good)

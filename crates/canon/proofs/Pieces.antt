@@ -48,27 +48,21 @@ upper_at [] k d h = absurd (omega arith)
 upper_at (e ∷ es) zero d h = refl
 upper_at (e ∷ es) (suc k) d h = ap (λ n. get_or (flat_map ends_of (e ∷ es)) n (pos 0)) (let m : 2 * suc k + 1 ≡ suc (suc (2 * k + 1)) = omega arith in m) ∙ upper_at es k d (omega arith)
 
-parts_back : (e : Extent) (l low up : ℤ) → l ≡ e.length → low ≡ e.span.lower → up ≡ e.span.upper → ◌≡◌ {A = Extent} e (record { length = l; span = record { lower = low; upper = up } })
-parts_back e l low up a b c =
-    ap (λ x. record { length = x; span = e.span }) (sym a)
-    ∙ ap (λ x. record { length = l; span = record { lower = x; upper = e.span.upper } }) (sym b)
-    ∙ ap (λ x. record { length = l; span = record { lower = low; upper = x } }) (sym c)
-
 module _ (es : List Extent) (k : ℕ) (d : Extent) (h : k < length es) where
   extent_back : get_or es k d ≡ extent_at (length es) (piece_numbers es) k
   extent_back =
-      let a : get_or (piece_numbers es) k (pos 0) ≡ (get_or es k d).length =
+      let length_at : get_or (piece_numbers es) k (pos 0) ≡ (get_or es k d).length =
       get_or_append_left (map (λ e. e.length) es) (flat_map ends_of es) (pos 0) k (omega (arith, length-map es (λ e. e.length)))
       ∙ get_or-map (λ e. e.length) es k d (pos 0) h in
-      let b : get_or (piece_numbers es) (length es + 2 * k) (pos 0) ≡ (get_or es k d).span.lower =
+      let even : length es + 2 * k - length es ≡ 2 * k = omega arith in
+      let odd : length es + 2 * k + 1 - length es ≡ 2 * k + 1 = omega arith in
+      let low : get_or (piece_numbers es) (length es + 2 * k) (pos 0) ≡ (get_or es k d).span.lower =
       get_or-append_right (map (λ e. e.length) es) (flat_map ends_of es) (length es) (length es + 2 * k) (pos 0) (length-map es (λ e. e.length)) (omega arith)
-      ∙ ap (λ n. get_or (flat_map ends_of es) n (pos 0)) (let m : length es + 2 * k - length es ≡ 2 * k = omega arith in m)
-      ∙ lower_at es k d h in
-      let c : get_or (piece_numbers es) (length es + 2 * k + 1) (pos 0) ≡ (get_or es k d).span.upper =
+      ∙ rw even (lower_at es k d h) in
+      let high : get_or (piece_numbers es) (length es + 2 * k + 1) (pos 0) ≡ (get_or es k d).span.upper =
       get_or-append_right (map (λ e. e.length) es) (flat_map ends_of es) (length es) (length es + 2 * k + 1) (pos 0) (length-map es (λ e. e.length)) (omega arith)
-      ∙ ap (λ n. get_or (flat_map ends_of es) n (pos 0)) (let m : length es + 2 * k + 1 - length es ≡ 2 * k + 1 = omega arith in m)
-      ∙ upper_at es k d h in
-      parts_back (get_or es k d) _ _ _ a b c
+      ∙ rw odd (upper_at es k d h) in
+      rw (length_at, low, high)
 
 extents_back : (axes : ℕ) (es : List Extent) → length es ≡ axes → extents axes (piece_numbers es) ≡ es
 extents_back axes es e = sym (fill_by_all (extent_at axes (piece_numbers es)) es axes nothing e (λ k h. let m : k < length es = omega arith in extent_back es k nothing m ∙ ap (λ n. extent_at n (piece_numbers es) k) e))
@@ -125,17 +119,9 @@ piece_fit axes es few h =
     let s = spaced_short (piece_numbers es) small in
     record { short = omega (arith, length_numbers es, h.each_axis); shown = shown_after (codes "piece") (flat_map spaced (piece_numbers es)) refl (spaced_shown (piece_numbers es) small) }
 
--- the numbers are read back
-piece_read : (z : ℤ) (zs : List ℤ) → AllByRecursion Small (z ∷ zs) → with_some (after (codes "piece ") (codes "piece" ++ flat_map spaced (z ∷ zs))) (λ text. numbers (length (z ∷ zs)) (items text)) ≡ Some (z ∷ zs)
-piece_read z zs h =
-    ap (λ o. with_some o (λ text. numbers (length (z ∷ zs)) (items text))) (after_front (codes "piece ") (signed_decimal z ++ flat_map spaced zs))
-    ∙ numbers_back z zs h.0 h.1
-
 pub piece_back : (axes : ℕ) (es : List Extent) → 1 ≤ axes → PieceFits axes es → says_piece axes (piece_body es) ≡ Ok es
 piece_back axes [] some h = absurd (omega (arith, h.each_axis))
 piece_back axes (e ∷ es) some h =
     let n : 3 * axes ≡ length (piece_numbers (e ∷ es)) = omega (arith, length_numbers (e ∷ es), h.each_axis) in
-    ap (λ k. judged (option_map (extents axes) (with_some (after (codes "piece ") (piece_body (e ∷ es))) (λ text. numbers k (items text)))) extents_fit (λ x. x)) n
-    ∙ ap (λ o. judged (option_map (extents axes) o) extents_fit (λ x. x)) (piece_read e.length (map (λ x. x.length) es ++ flat_map ends_of (e ∷ es)) (small_numbers (e ∷ es) h.each_fits))
-    ∙ ap (λ x. judged (Some x) extents_fit (λ y. y)) (extents_back axes (e ∷ es) h.each_axis)
-    ∙ cond-true _ _ _ (extents_good (e ∷ es) h.each_fits)
+    let small = small_numbers (e ∷ es) h.each_fits in
+    rw (n, numbers_back e.length (map (λ x. x.length) es ++ flat_map ends_of (e ∷ es)) small.0 small.1, extents_back axes (e ∷ es) h.each_axis, extents_good (e ∷ es) h.each_fits)

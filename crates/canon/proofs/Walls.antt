@@ -35,7 +35,4 @@ row_fit cs h = record { short = omega (arith, length-map cs letter, h.few); show
 
 pub row_back : (cs : List Cell) → RowFits cs → says_wall (row_body cs) ≡ Ok cs
 row_back [] h = absurd (omega (arith, h.some))
-row_back (c ∷ cs) h =
-    ap (λ o. judged (with_some o row) row_fits (λ x. x)) (after_front (codes "wall ") (map letter (c ∷ cs)))
-    ∙ ap (λ o. judged o row_fits (λ x. x)) (cells_back (c ∷ cs))
-    ∙ cond-true _ _ _ (le-leb (length (c ∷ cs)) 64 h.few)
+row_back (c ∷ cs) h = rw (cells_back (c ∷ cs), le-leb (length (c ∷ cs)) 64 h.few)

@@ -1,21 +1,23 @@
-use Rattle.std.proofs.Common.{◌≡◌, [], ◌∷◌, ◌++◌, map, string_bytes, codes, sym, ap, ◌∙◌, append_assoc}
+use Rattle.std.proofs.Common.{◌≡◌, List, [], ◌∷◌, ◌++◌, ℤ, string_bytes, refl, ap, ◌∙◌, append_assoc, arith}
 use Rattle.std.specs.List.{flat_map}
+use Rattle.std.proofs.lemmas.List.{take_all}
+use Rattle.std.proofs.lemmas.List.Concat.{flat_map-append}
+use Rattle.std.proofs.lemmas.List.Folds.{flat_map-map}
 use Rattle.room.specs.Listed.{listed}
-use Rattle.canon.specs.Canonical.{spaced, ends_of, piece_numbers}
-use Rattle.text.proofs.Writes.{four_writes}
-use Rattle.canon.proofs.Joining.{joined_map, joined_pairs, joined_append}
+use Rattle.canon.specs.Canonical.{spaced, piece_numbers, piece_line}
 use Rattle.canon.proofs.writer.ExtentsCanonical.put.Goals as goal
+
+-- two numbers for each item
+spaced_pairs : {X : Type 0} (a b : X → ℤ) (xs : List X) → flat_map (λ x. spaced (a x) ++ spaced (b x)) xs ≡ flat_map spaced (flat_map (λ x. a x ∷ (b x ∷ [])) xs)
+spaced_pairs a b [] = refl
+spaced_pairs a b (x ∷ xs) = append_assoc (spaced (a x)) (spaced (b x)) _ ∙ ap (λ bs. spaced (a x) ++ (spaced (b x) ++ bs)) (spaced_pairs a b xs)
 
 pub returns : goal.returns
 returns c =
     let es = listed c.args.self.now in
-    let slice : c.as_slice-extents.result.now ≡ es = c.as_slice-extents.ensures.items in
-    let lengths : flat_map (λ e. spaced e.length) c.as_slice-extents.result.now ≡ flat_map spaced (map (λ e. e.length) es) = ap (flat_map (λ e. spaced e.length)) slice ∙ joined_map spaced (λ e. e.length) es in
-    let ends : flat_map (λ e. spaced e.span.lower ++ spaced e.span.upper) c.as_slice-extents.result.now ≡ flat_map spaced (flat_map ends_of es) = ap (flat_map (λ e. spaced e.span.lower ++ spaced e.span.upper)) slice ∙ joined_pairs spaced (λ e. e.span.lower) (λ e. e.span.upper) es in
-    let numbers : flat_map spaced (map (λ e. e.length) es) ++ (flat_map spaced (flat_map ends_of es) ++ (10 ∷ [])) ≡ flat_map spaced (piece_numbers es) ++ (10 ∷ []) = sym (append_assoc (flat_map spaced (map (λ e. e.length) es)) (flat_map spaced (flat_map ends_of es)) (10 ∷ [])) ∙ ap (λ bs. bs ++ (10 ∷ [])) (sym (joined_append spaced (map (λ e. e.length) es) (flat_map ends_of es))) in
-    four_writes (string_bytes c.args.out.now) (string_bytes c.write.new.self) (string_bytes c.put_lengths.new.out) (string_bytes c.put_each.new.out) (string_bytes c.write-2.new.self) (codes "piece") (flat_map spaced (map (λ e. e.length) es)) (flat_map spaced (flat_map ends_of es)) (10 ∷ [])
-    c.in_ok-write.ensures.bytes
-    (c.in_ok-put_lengths.ensures ∙ ap (λ bs. string_bytes c.write.new.self ++ bs) lengths)
-    (c.in_ok-put_each.ensures ∙ ap (λ bs. string_bytes c.put_lengths.new.out ++ bs) ends)
-    c.in_ok-write-2.ensures.bytes
-    ∙ ap (λ bs. string_bytes c.args.out.now ++ (codes "piece" ++ bs)) numbers
+    let lengths = rw (take_all c.loop-length.length-index c.as_slice-extents.result.now (omega arith), c.as_slice-extents.ensures.items) at c.loop-length.invariant in
+    let ends = rw (take_all c.loop-span.span-index c.as_slice-extents.result.now (omega arith), c.as_slice-extents.ensures.items) at c.loop-span.invariant in
+    let numbers : flat_map spaced (piece_numbers es) ≡ flat_map (λ e. spaced e.length) es ++ flat_map (λ e. spaced e.span.lower ++ spaced e.span.upper) es =
+    rw (flat_map-append, flat_map-map, spaced_pairs (λ e. e.span.lower) (λ e. e.span.upper) es) in
+    let whole : string_bytes c.loop-span.out ++ (10 ∷ []) ≡ string_bytes c.args.out.now ++ piece_line es = rw (ends, lengths, c.in_ok-write.ensures.bytes, numbers) (simp append_assoc) in
+    rw whole at c.write-2.ensures.bytes
