@@ -10,6 +10,7 @@ use forms::contents::Contents;
 use forms::piece::Extents;
 use room::orders::Order;
 use room::piece::Extent;
+use room::span::Span;
 use room::walls::{Cell, Row};
 use std::alloc::AllocError;
 

@@ -1,4 +1,4 @@
--- Boxes with the same ends, and boxes that are given under a test.
+-- Boxes with the same ends, boxes inside the bounds of a piece, and what is given under a test.
 use Rattle.std.proofs.Common.{◌≡◌, ℕ, ◌<◌, ◌≤◌, Bool, true, false, cond, ℤ, ◌≤ℤ◌, Some, None, Option, Decides, sym, refl, ◌∙◌, subst, arith}
 use Rattle.std.specs.Bool.{then_some}
 use Rattle.std.proofs.lemmas.Int.{ints}
