@@ -1,4 +1,3 @@
-use Rattle.room.proofs.Fitting.{limits_seen}
 use Rattle.rule.proofs.Gatherings.{sound_lists}
 use Rattle.rule.specs.Subjects.{room_seen}
 use Rattle.walls.specs.Drawn.{cell_given, cells_of}
@@ -12,5 +11,4 @@ returns-clause-lists c =
     let rows = walls_of c.args.self.now in
     let s = c.args.subject.now in
     let r = room_seen s in
-    sound_lists (cell_given rows s.axes r s.piece) s.axes r s.piece (walls_shut rows s.axes r s.piece) (cells_of rows)
-    (cells_sound rows s.axes r s.piece c.requires.suits s.board.axes_to (limits_seen s.axes s.records.now s.piece s.board s.known))
+    sound_lists (cell_given rows s.axes r s.piece) s.axes r s.piece (walls_shut rows s.axes r s.piece) (cells_of rows) (cells_sound rows s c.requires.suits)
