@@ -4,57 +4,59 @@ use Rattle.std.proofs.lemmas.Nat.{div_below, div-mul-add, mod_below, mod-mul-add
 use Rattle.std.proofs.lemmas.Int.{ints, by_lt_z}
 use Rattle.std.proofs.lemmas.Bool.{cond-true, cond-false}
 use Rattle.std.proofs.lemmas.Bool.Decides.{Decides-and}
-use Rattle.room.specs.Fit.{Limits}
+use Rattle.std.specs.declared.ops.Range.{Range}
 use Rattle.room.specs.Limits.{max_cells, max_rows}
 use Rattle.room.specs.Seen.{Room, Point, Box, Within, Holds, Meets, meets}
 use Rattle.room.specs.declared.walls.Cell.{Cell}
 use Rattle.room.proofs.Belows.{false_from, passes}
 use Rattle.room.proofs.Cuts.{by_axis, common_point, decides_meets, meets_from}
-use Rattle.std.specs.declared.ops.Range.{Range}
 use Rattle.rule.specs.Gathered.{Sound}
 use Rattle.rule.specs.Means.{EndsFit, ListsBox, Shuts, max_box_end}
+use Rattle.rule.specs.Subjects.{Suits, room_seen}
+use Rattle.rule.specs.declared.subject.Subject.{Subject}
 use Rattle.rule.proofs.Boxes.{given_some as given_under}
-use Rattle.walls.specs.Drawn.{cell_box, cell_given, cells_of, column_of, only, row_of, run_box}
+use Rattle.walls.specs.Drawn.{cell_box, cell_given, cells_of, column_of, length_seen, only, row_of, run_box}
 use Rattle.walls.specs.Held.{Among, Run}
 use Rattle.walls.specs.Walled.{Spans, wall, walls_shut, walls_suit}
 use Rattle.walls.specs.Walls.{decides_shut, two_axes, wall_within}
+use Rattle.walls.proofs.Seeing.{limits}
 
 natural : (z : ℤ) → pos 0 ≤ℤ z → (n : ℕ) × (z ≡ pos n)
 natural (pos n) h = (n, refl)
 natural (negsuc n) h = absurd (omega (arith, ints))
 
-module _ (rows : List (List Cell)) (k : ℕ) (r : Room) (p : ℕ) (two : 2 ≤ k) (three : k ≤ 3) (limits : (d : ℕ) → d < k → Limits (r.size p d) (r.low p d) (r.high p d)) (column : ℕ) (run : Range ℕ) where
+module _ (rows : List (List Cell)) (s : Subject) (two : 2 ≤ s.axes) (column : ℕ) (run : Range ℕ) where
   abbrev box : Box
-  box = run_box (r.size p 0) (r.size p 1) column run
+  box = run_box (length_seen s 0) (length_seen s 1) column run
 
-  pub run_holds : (x : Point) (row : ℕ) → Within k r p x → Spans (x 0) (r.size p 0) column → Spans (x 1) (r.size p 1) row → Among run row → Holds k box x
+  pub run_holds : (x : Point) (row : ℕ) → Within s.axes (room_seen s) s.piece x → Spans (x 0) (length_seen s 0) column → Spans (x 1) (length_seen s 1) row → Among run row → Holds s.axes box x
   run_holds x row within across down among d h =
-      by_axis (λ e. e < k → (box.from e ≤ℤ x e) × (x e ≤ℤ box.to e))
+      by_axis (λ e. e < s.axes → (box.from e ≤ℤ x e) × (x e ≤ℤ box.to e))
       (λ _. (omega (arith, ints), omega (arith, ints)))
       (λ _. (omega (arith, ints), omega (arith, ints)))
       (λ third.
-      let l = limits 2 third in
+      let l = limits s 2 third in
       let a = within.above 2 third in
       let u = within.under 2 third in
       (omega (arith, ints), omega (arith, ints)))
-      d (omega arith) h
+      d (omega (arith, s.board.axes_to)) h
 
-  pub run_ends : column < max_cells → run.end ≤ max_rows → EndsFit k box
+  pub run_ends : column < max_cells → run.end ≤ max_rows → EndsFit s.axes box
   run_ends across down =
-      let wide = limits 0 (omega arith) in
-      let tall = limits 1 (omega arith) in
+      let wide = limits s 0 (omega arith) in
+      let tall = limits s 1 (omega arith) in
       record {
-        least = λ d h. by_axis (λ e. neg_ℤ (pos max_box_end) ≤ℤ box.from e) (omega (arith, ints)) (omega (arith, ints)) (omega (arith, ints)) d (omega arith);
-        most = λ d h. by_axis (λ e. box.to e ≤ℤ pos max_box_end) (omega (arith, ints)) (omega (arith, ints)) (omega (arith, ints)) d (omega arith);
+        least = λ d h. by_axis (λ e. neg_ℤ (pos max_box_end) ≤ℤ box.from e) (omega (arith, ints)) (omega (arith, ints)) (omega (arith, ints)) d (omega (arith, s.board.axes_to));
+        most = λ d h. by_axis (λ e. box.to e ≤ℤ pos max_box_end) (omega (arith, ints)) (omega (arith, ints)) (omega (arith, ints)) d (omega (arith, s.board.axes_to));
       }
 
   -- a point of the box covers the cell at its own row, or at the first row of the run where it lies above it
-  pub run_shuts : pos 1 ≤ℤ r.size p 1 → run.start < run.end → Run rows column run.start run.end → Shuts k r p (walls_shut rows k r p) box
+  pub run_shuts : pos 1 ≤ℤ length_seen s 1 → run.start < run.end → Run rows column run.start run.end → Shuts s.axes (room_seen s) s.piece (walls_shut rows s.axes (room_seen s) s.piece) box
   run_shuts tall some walls y within held =
       let across = held 0 (omega arith) in
       let down = held 1 (omega arith) in
-      let at_row : (row : ℕ) → run.start ≤ row → row < run.end → Spans (y 1) (r.size p 1) row → walls_shut rows k r p y ≡ true = λ row above under spans.
-      (decides_shut rows k r p y).1 (two, record { row = row; column = column; is_there = walls row above under; in_columns = record { first = omega (arith, ints); last = omega (arith, ints) }; in_rows = spans })
+      let at_row : (row : ℕ) → run.start ≤ row → row < run.end → Spans (y 1) (length_seen s 1) row → walls_shut rows s.axes (room_seen s) s.piece y ≡ true = λ row above under spans.
+      (decides_shut rows s.axes (room_seen s) s.piece y).1 (two, record { row = row; column = column; is_there = walls row above under; in_columns = record { first = omega (arith, ints); last = omega (arith, ints) }; in_rows = spans })
       in
       by_lt_z (pos run.start) (y 1)
       (λ under.
@@ -83,24 +85,26 @@ module _ (rows : List (List Cell)) (k : ℕ) (r : Room) (p source : ℕ) where
       (is, meet, same)
 
 -- the boxes of the cells are a right list: a wall gives its box exactly where the piece can cover it
-pub cells_sound : (rows : List (List Cell)) (k : ℕ) (r : Room) (p : ℕ) → walls_suit rows k r.count ≡ true → k ≤ 3 → ((d : ℕ) → d < k → Limits (r.size p d) (r.low p d) (r.high p d)) → Sound k r p (walls_shut rows k r p) (cell_given rows k r p) (cells_of rows)
-cells_sound rows k r p suits three limits = record {
+pub cells_sound : (rows : List (List Cell)) (s : Subject) → Suits (walls_suit rows) s → Sound s.axes (room_seen s) s.piece (walls_shut rows s.axes (room_seen s) s.piece) (cell_given rows s.axes (room_seen s) s.piece) (cells_of rows)
+cells_sound rows s suits = record {
   each = λ j b below gives.
+      let k = s.axes in
+      let r = room_seen s in
       let row = row_of j in
       let column = column_of j in
-      let (is, meet, same) = given_tells rows k r p j b gives in
+      let (is, meet, same) = given_tells rows k r s.piece j b gives in
       let two = two_axes rows k r.count row column suits is in
       let across : column < max_cells = mod_below j 64 (lit< tt) in
       let down : row < max_rows = omega (arith, div_below j 64 (min (length rows) 64) (lit< tt) below) in
       let one = meet 1 (omega arith) in
       let walls : Run rows column row (row + 1) = λ i from to. let here : row ≡ i = omega arith in subst (λ n. wall rows n column ≡ true) here is in
-      subst (ListsBox k r p (walls_shut rows k r p)) same (record {
-        shuts = run_shuts rows k r p two three limits column (only row) (omega (arith, ints)) (omega arith) walls;
-        some = common_point k (cell_box r p j) r p (λ d h. (limits d h).order) meet;
-        ends = run_ends rows k r p two three limits column (only row) across (omega arith);
+      subst (ListsBox k r s.piece (walls_shut rows k r s.piece)) same (record {
+        shuts = run_shuts rows s two column (only row) (omega (arith, ints)) (omega arith) walls;
+        some = common_point k (cell_box r s.piece j) r s.piece (λ d h. (limits s d h).order) meet;
+        ends = run_ends rows s two column (only row) across (omega arith);
       });
   every = λ x within shut.
-      let (two, covers) = (decides_shut rows k r p x).0 shut in
+      let (two, covers) = (decides_shut rows s.axes (room_seen s) s.piece x).0 shut in
       let row = covers.row in
       let column = covers.column in
       let inside = wall_within rows row column covers.is_there in
@@ -110,11 +114,11 @@ cells_sound rows k r p suits three limits = record {
       let is : wall rows (row_of j) (column_of j) ≡ true = ap (λ n. wall rows n (column_of j)) at_row ∙ ap (wall rows row) at_column ∙ covers.is_there in
       let here = inside.row_known in
       let below = inside.row_below in
-      let held = run_holds rows k r p two three limits (column_of j) (only (row_of j)) x (row_of j) within (subst (Spans (x 0) (r.size p 0)) (sym at_column) covers.in_columns) (subst (Spans (x 1) (r.size p 1)) (sym at_row) covers.in_rows) (omega arith, omega arith) in (
+      let held = run_holds rows s two (column_of j) (only (row_of j)) x (row_of j) within (subst (Spans (x 0) (length_seen s 0)) (sym at_column) covers.in_columns) (subst (Spans (x 1) (length_seen s 1)) (sym at_row) covers.in_rows) (omega arith, omega arith) in (
         j,
-        cell_box r p j,
+        cell_box (room_seen s) s.piece j,
         omega (arith, mul-add-lt row 64 column (min (length rows) 64) (omega arith) inside.column_below),
-        given_some rows k r p j is (meets_from k (cell_box r p j) r p x within held),
+        given_some rows s.axes (room_seen s) s.piece j is (meets_from s.axes (cell_box (room_seen s) s.piece j) (room_seen s) s.piece x within held),
         held,
       );
 }

@@ -1,17 +1,16 @@
 -- What the test of a wall map tells, and what follows for placements and for tighter bounds.
-use Rattle.std.specs.Prelude.{◌≡◌, ℕ, ◌<◌, ◌≤◌, true, ◌&&◌, List, [], length, ℤ, pos, ◌+ℤ◌, ◌-ℤ◌, Decides, nat_lt, slice_index_or, refl}
-use Rattle.std.proofs.Common.{⊎_elim, sym, ap, subst, arith}
+use Rattle.std.specs.Prelude.{◌≡◌, ℕ, ◌<◌, ◌≤◌, true, List, [], length, ℤ, pos, ◌+ℤ◌, ◌-ℤ◌, Decides, slice_index_or, refl}
+use Rattle.std.proofs.Common.{⊎_elim, sym, subst, arith}
 use Rattle.std.proofs.lemmas.List.{get_or_past}
-use Rattle.std.proofs.lemmas.Bool.{and_parts, both_ways, cases_lt, or_cases, leb-true, le-leb, ltb-true, eqb-true}
-use Rattle.std.proofs.lemmas.Bool.Decides.{Decides-and, Decides-like}
+use Rattle.std.proofs.lemmas.Bool.{both_ways, or_cases, leb-true, le-leb, eqb-true}
+use Rattle.std.proofs.lemmas.Bool.Decides.{Decides-and, Decides-like, nat_tests}
 use Rattle.room.specs.Limits.{max_cells, max_rows}
 use Rattle.room.specs.Seen.{Room, Point, Inside}
 use Rattle.room.specs.declared.walls.Cell.{Cell}
-use Rattle.room.specs.declared.walls.Cell.TheVariants.{Open}
 use Rattle.room.proofs.Belows.{decides_any, passes, false_from}
 use Rattle.room.proofs.Cuts.{decides_int_le}
 use Rattle.rule.specs.Kept.{fixed}
-use Rattle.walls.specs.Walled.{Spans, CoversWall, WallsKept, spans, wall, walls_shut, walls_suit, is_wall}
+use Rattle.walls.specs.Walled.{Spans, CoversWall, WallsKept, spans, wall, walls_shut, walls_suit}
 
 -- a wall is a cell of the map
 pub record WallWithin (rows : List (List Cell)) (row column : ℕ) : Type 0 where
@@ -22,12 +21,11 @@ pub record WallWithin (rows : List (List Cell)) (row column : ℕ) : Type 0 wher
 pub wall_within : (rows : List (List Cell)) (row column : ℕ) → wall rows row column ≡ true → WallWithin rows row column
 unfolding wall
 wall_within rows row column is =
-    let (below, rest) = and_parts (nat_lt row max_rows) (nat_lt column max_cells && is_wall (slice_index_or (slice_index_or rows row []) column Open)) is in
-    let (left, there) = and_parts (nat_lt column max_cells) (is_wall (slice_index_or (slice_index_or rows row []) column Open)) rest in
+    let gone : length rows ≤ row → slice_index_or rows row [] ≡ [] = get_or_past rows row [] in
     record {
-      row_known = ⊎_elim (λ here. here) (λ past. absurd (both_ways _ (ap (λ cells. is_wall (slice_index_or cells column Open)) (get_or_past rows row [] past)) there)) (cases_lt row (length rows));
-      row_below = ltb-true row max_rows below;
-      column_below = ltb-true column max_cells left;
+      row_known = grind (arith, nat_tests);
+      row_below = grind (arith, nat_tests);
+      column_below = grind (arith, nat_tests);
     }
 
 decides_spans : (origin size : ℤ) (cell : ℕ) → Decides (spans origin size cell) (Spans origin size cell)

@@ -28,6 +28,7 @@ use std::ops::Range;
 /// The ends of a box on an axis along which walls do not end.
 const MAX_BOX_END: i32 = 2_000_000;
 
+/// The range of origins on such an axis.
 const ANY_ORIGIN: Span = Span {
     lower: -MAX_BOX_END,
     upper: MAX_BOX_END,
@@ -118,14 +119,14 @@ impl WallRule {
         WallRule { map: *map }
     }
 
-    /// The cells of a row; a row past the last has none.
+    /// The cells of a row; past the last row there are none.
     fn row(&self, row: usize) -> &[Cell]
         ensures { (column : ℕ) → wall (walls_of self.now) row column ≡ is_wall (slice_index_or result.now column OpenT) }
     {
-        match self.map.as_slice().get(row) {
-            Some(cells) => cells.as_slice(),
-            None => &[],
-        }
+        self.map
+            .as_slice()
+            .get(row)
+            .map_or(&[], |cells| cells.as_slice())
     }
 
     /// Whether a cell is a wall.
@@ -155,7 +156,8 @@ impl WallRule {
         self.run_start(place)..self.run_end(place)
     }
 
-    // one loop over an iterator of rows would need a contract on the order that they come in, and is no plainer
+    // one function over an iterator of rows is no plainer: its contract would have to say in which order they come
+    /// The first row of the run of walls that goes up from a wall in its column.
     fn run_start(&self, place: Place) -> usize
         requires { wall (walls_of self.now) place.row place.column ≡ true }
         ensures order { result ≤ place.row }
@@ -170,6 +172,7 @@ impl WallRule {
         0
     }
 
+    /// The row after the last of the run of walls that goes down from a wall in its column.
     #[tactic(auto, unfolding(crate::specs::Walled::wall))]
     fn run_end(&self, place: Place) -> usize
         requires { wall (walls_of self.now) place.row place.column ≡ true }

@@ -4,8 +4,5 @@ use Rattle.std.proofs.lemmas.Grind.{common_steps}
 use Rattle.walls.proofs.Cells.{wall_read}
 use Rattle.walls.proofs.WallRule.row.Goals as goal
 
-pub returns-in-Some : goal.returns-in-Some
-returns-in-Some c column = grind (arith, common_steps, get_or-map, wall_read)
-
-pub returns-in-None : goal.returns-in-None
-returns-in-None c column = grind (arith, common_steps, wall_read)
+pub returns : goal.returns
+returns c column = grind (arith, common_steps, get_or-map, wall_read)
