@@ -1,21 +1,18 @@
 -- The table of contents is read back from its line.
-use Rattle.std.proofs.Common.{◌≡◌, ℕ, ◌≤◌, true, List, [], ◌∷◌, ◌++◌, length, ℤ, pos, Some, Ok, codes, refl, ap, ◌∙◌, append_assoc, arith}
+use Rattle.std.proofs.Common.{◌≡◌, ℕ, ◌≤◌, true, List, [], ◌∷◌, ◌++◌, length, ℤ, pos, Some, Ok, codes, refl, ap, append_assoc, arith}
 use Rattle.std.specs.List.{flat_map, AllByRecursion}
 use Rattle.std.specs.Fmt.{signed_decimal}
 use Rattle.std.proofs.ByRecursion.{All-append, All-weaker}
 use Rattle.std.proofs.lemmas.List.{append-nil, length-append}
-use Rattle.std.proofs.lemmas.Bool.{cond-true, le-leb, and_from}
+use Rattle.std.proofs.lemmas.Bool.{le-leb, and_from}
 use Rattle.text.proofs.Parts.{Lacks, items_parted}
 use Rattle.text.proofs.Range.{InRange, all_in_range}
 use Rattle.text.specs.Items.{items}
-use Rattle.text.specs.Numerals.{numbers}
-use Rattle.forms.proofs.Front.{after_front}
 use Rattle.forms.proofs.Modes.{mode_some}
 use Rattle.forms.specs.declared.contents.Contents.{Contents}
 use Rattle.forms.specs.declared.contents.Mode.{Mode}
 use Rattle.forms.specs.declared.contents.Mode.TheVariants.{Strict, Nonstrict}
-use Rattle.forms.specs.Forms.{Announced, announced, contents_items, contents_fit, contents_from, says_contents, mode_word, mode_of, between}
-use Rattle.forms.specs.Outcome.{judged, with_some}
+use Rattle.forms.specs.Forms.{Announced, contents_items, contents_fit, says_contents, mode_word, between}
 use Rattle.forms.specs.Within.{Within}
 use Rattle.canon.proofs.Lines.{Fit, shown_after}
 use Rattle.canon.proofs.Numbers.{Small, numeral_signed, signed_short}

@@ -1,16 +1,15 @@
 -- Lines that are written one after another are the lines that are read.
-use Rattle.std.proofs.Common.{◌≡◌, ℕ, ◌+◌, ◌*◌, ◌≤◌, true, List, [], ◌∷◌, ◌++◌, map, length, drop, Ok, Result, refl, ap, ◌∙◌, append_assoc, arith}
+use Rattle.std.proofs.Common.{◌≡◌, ℕ, ◌+◌, ◌*◌, ◌≤◌, true, List, [], ◌∷◌, ◌++◌, map, length, drop, Ok, Result, refl, ap, append_assoc, arith}
 use Rattle.std.specs.List.{flat_map, AllByRecursion}
 use Rattle.std.proofs.ByRecursion.{All-weaker, All-map, All-append}
 use Rattle.std.proofs.lemmas.List.{length-append, length-map, drop_at}
-use Rattle.std.proofs.lemmas.Bool.{cond-true, and_from, le-leb}
+use Rattle.std.proofs.lemmas.Bool.{and_from, le-leb}
 use Rattle.text.proofs.Parts.{Lacks, lines_ended}
 use Rattle.text.proofs.Range.{InRange, all_within_from, all_in_range}
 use Rattle.text.specs.Bytes.{all_within}
 use Rattle.text.specs.Lines.{Line, line, lines, readable}
-use Rattle.forms.specs.Outcome.{and_then, map_ok}
 use Rattle.forms.specs.declared.fault.Fault.{Fault}
-use Rattle.sheet.specs.Meaning.{line_says, each_says, at_line}
+use Rattle.sheet.specs.Meaning.{line_says, each_says}
 
 -- a text that may stand in a line
 pub record Fit (body : List ℕ) : Type 0 where
@@ -33,14 +32,11 @@ fit_lacks body h = All-weaker (InRange 32 126) (λ b. b ≡ 10 → ⊥) (λ c k 
 
 -- what a line that was written says
 pub line_back : {A : Type 0} (says : List ℕ → Result A Fault) (n : ℕ) (body : List ℕ) (ls : List Line) (x : A) → Fit body → says body ≡ Ok x → line_says says n (ended body ∷ ls) ≡ Ok x
-line_back says n body ls x h e =
-    ap (λ r. and_then r (λ t. at_line n (says t))) (cond-true _ _ _ (fit_readable body h))
-    ∙ ap (at_line n) e
+line_back says n body ls x h e = rw (fit_readable body h, e)
 
 -- one line, and what follows it
 pub line_written : (write body rest : List ℕ) → write ≡ body ++ (10 ∷ []) → Fit body → lines (write ++ rest) ≡ ended body ∷ lines rest
-line_written write body rest apart h =
-    ap lines (ap (λ t. t ++ rest) apart ∙ append_assoc body (10 ∷ []) rest) ∙ lines_ended body rest (fit_lacks body h)
+line_written write body rest apart h = rw (apart, append_assoc body (10 ∷ []) rest) (lines_ended body rest (fit_lacks body h))
 
 pub line_short : (write body : List ℕ) → write ≡ body ++ (10 ∷ []) → Fit body → length write ≤ 97
 line_short write body apart h = omega (arith, ap length apart, length-append body (10 ∷ []), h.short)
@@ -50,9 +46,7 @@ module _ {A : Type 0} (write : A → List ℕ) (body : A → List ℕ) (apart : 
   pub lines_written : (xs : List A) (rest : List ℕ) → AllByRecursion (λ x. Fit (body x)) xs → lines (flat_map write xs ++ rest) ≡ map (λ x. ended (body x)) xs ++ lines rest
   lines_written [] rest h = refl
   lines_written (x ∷ xs) rest h =
-      ap lines (append_assoc (write x) (flat_map write xs) rest)
-      ∙ line_written (write x) (body x) (flat_map write xs ++ rest) (apart x) h.0
-      ∙ ap (λ ls. ended (body x) ∷ ls) (lines_written xs rest h.1)
+      rw (append_assoc (write x) (flat_map write xs) rest, line_written (write x) (body x) (flat_map write xs ++ rest) (apart x) h.0, lines_written xs rest h.1)
 
   pub length_written : (xs : List A) → AllByRecursion (λ x. Fit (body x)) xs → length (flat_map write xs) ≤ 97 * length xs
   length_written [] h = omega arith
@@ -69,7 +63,4 @@ module _ {A : Type 0} (body : A → List ℕ) where
   -- what the lines say, where each says the thing that was written
   pub each_back : (says : List ℕ → Result A Fault) (n : ℕ) (xs : List A) (more : List Line) → AllByRecursion (λ x. Fit (body x)) xs → AllByRecursion (λ x. says (body x) ≡ Ok x) xs → each_says says n (length xs) (map (λ x. ended (body x)) xs ++ more) ≡ Ok xs
   each_back says n [] more h k = refl
-  each_back says n (x ∷ xs) more h k =
-      let ls : List Line = map (λ y. ended (body y)) xs ++ more in
-      ap (λ r. and_then r (λ y. map_ok (λ ys. y ∷ ys) (each_says says (n + 1) (length xs) ls))) (line_back says n (body x) ls x h.0 k.0)
-      ∙ ap (map_ok (λ ys. x ∷ ys)) (each_back says (n + 1) xs more h.1 k.1)
+  each_back says n (x ∷ xs) more h k = rw (line_back says n (body x) (map (λ y. ended (body y)) xs ++ more) x h.0 k.0, each_back says (n + 1) xs more h.1 k.1)

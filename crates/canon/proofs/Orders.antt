@@ -1,16 +1,11 @@
 -- An order is read back from its line.
-use Rattle.std.proofs.Common.{◌≡◌, ℕ, ◌<◌, ◌≤◌, true, List, [], ◌∷◌, ◌++◌, ℤ, pos, ◌≤ℤ◌, Ok, codes, refl, ap, ◌∙◌, append_assoc, arith}
+use Rattle.std.proofs.Common.{◌≡◌, ℕ, ◌<◌, ◌≤◌, true, List, [], ◌∷◌, ◌++◌, ℤ, pos, ◌≤ℤ◌, Ok, codes, refl, ap, append_assoc, arith}
 use Rattle.std.specs.List.{flat_map, AllByRecursion}
-use Rattle.std.specs.Fmt.{signed_decimal}
 use Rattle.std.proofs.lemmas.List.{append-nil}
 use Rattle.std.proofs.lemmas.Int.{ints}
-use Rattle.std.proofs.lemmas.Bool.{cond-true, le-leb, lt-ltb, ne_eqb, and_from, not_from_false}
+use Rattle.std.proofs.lemmas.Bool.{le-leb, lt-ltb, ne_eqb, and_from, not_from_false}
 use Rattle.room.specs.declared.orders.Order.{Order}
-use Rattle.text.specs.Items.{items}
-use Rattle.text.specs.Numerals.{numbers}
-use Rattle.forms.proofs.Front.{after_front}
-use Rattle.forms.specs.Forms.{order_fits, order_from, says_before, below, between}
-use Rattle.forms.specs.Outcome.{judged, with_some}
+use Rattle.forms.specs.Forms.{order_fits, says_before, below, between}
 use Rattle.sheet.specs.Fits.{OrderFits}
 use Rattle.canon.proofs.Lines.{Fit, shown_after}
 use Rattle.canon.proofs.Numbers.{Small}

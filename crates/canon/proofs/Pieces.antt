@@ -1,21 +1,17 @@
 -- A piece is read back from its line.
-use Rattle.std.proofs.Common.{◌≡◌, ℕ, zero, suc, ◌+◌, ◌-◌, ◌*◌, ◌<◌, ◌≤◌, true, List, [], ◌∷◌, ◌++◌, map, length, get_or, ℤ, pos, neg_ℤ, ◌≤ℤ◌, Some, Ok, codes, sym, refl, ap, ◌∙◌, arith}
-use lib.Signed.{le_z}
+use Rattle.std.proofs.Common.{◌≡◌, ℕ, zero, suc, ◌+◌, ◌-◌, ◌*◌, ◌<◌, ◌≤◌, true, List, [], ◌∷◌, ◌++◌, map, length, get_or, ℤ, pos, neg_ℤ, ◌≤ℤ◌, Ok, codes, sym, refl, ap, ◌∙◌, arith}
 use Rattle.std.specs.List.{flat_map, AllByRecursion}
-use Rattle.std.specs.Option.{option_map}
-use Rattle.std.specs.Fmt.{signed_decimal}
 use Rattle.std.proofs.lemmas.List.FromFn.{fill_by_all}
 use Rattle.std.proofs.ByRecursion.{All-weaker, All-append, All-map}
 use Rattle.std.proofs.lemmas.List.{length-append, length-map, get_or-map, get_or_append_left, get_or-append_right}
 use Rattle.std.proofs.lemmas.Int.{ints}
-use Rattle.std.proofs.lemmas.Bool.{cond-true, and_from, and_parts}
+use Rattle.std.proofs.lemmas.Bool.{and_parts}
+use Rattle.std.proofs.lemmas.List.Elements.{All-from_recursion}
+use Rattle.std.proofs.lemmas.List.Sums.{list_all-from_AllPass}
+use Rattle.room.proofs.Cuts.{decides_int_le}
 use Rattle.room.specs.Limits.{extent_fits}
 use Rattle.room.specs.declared.piece.Extent.{Extent}
-use Rattle.text.specs.Items.{items, after}
-use Rattle.text.specs.Numerals.{numbers}
-use Rattle.forms.proofs.Front.{after_front}
 use Rattle.forms.specs.Forms.{extent_at, extents, extents_fit, says_piece}
-use Rattle.forms.specs.Outcome.{judged, with_some}
 use Rattle.sheet.specs.Fits.{PieceFits}
 use Rattle.canon.proofs.Lines.{Fit, shown_after}
 use Rattle.canon.proofs.Numbers.{Small}
@@ -76,9 +72,6 @@ small_between : (z : ℤ) → neg_ℤ (pos 1000000) ≤ℤ z → z ≤ℤ pos 10
 small_between (pos n) a b = omega (arith, ints)
 small_between (ℤ.negsuc n) a b = omega (arith, ints)
 
-ordered : (a b : ℤ) → le_z a b ≡ true → a ≤ℤ b
-ordered a b h = grind (arith, ints)
-
 module _ (e : Extent) (h : extent_fits e ≡ true) where
   parts : (pos 0 ≤ℤ e.length) × (e.length ≤ℤ pos 1000000) × (neg_ℤ (pos 1000000) ≤ℤ e.span.lower) × (e.span.lower ≤ℤ e.span.upper) × (e.span.upper ≤ℤ pos 1000000)
   parts =
@@ -86,7 +79,7 @@ module _ (e : Extent) (h : extent_fits e ≡ true) where
       let b = and_parts _ _ a.0 in
       let c = and_parts _ _ b.0 in
       let d = and_parts _ _ c.0 in
-      (ordered _ _ d.0, ordered _ _ d.1, ordered _ _ c.1, ordered _ _ b.1, ordered _ _ a.1)
+      ((decides_int_le _ _).0 d.0, (decides_int_le _ _).0 d.1, (decides_int_le _ _).0 c.1, (decides_int_le _ _).0 b.1, (decides_int_le _ _).0 a.1)
 
   small_length : Small e.length
   small_length = let p = parts in small_between e.length (omega (arith, ints)) p.1
@@ -108,8 +101,7 @@ small_numbers es h =
     (small_ends es h)
 
 extents_good : (es : List Extent) → AllByRecursion (λ e. extent_fits e ≡ true) es → extents_fit es ≡ true
-extents_good [] h = refl
-extents_good (e ∷ es) h = and_from _ _ h.0 (extents_good es h.1)
+extents_good es h = list_all-from_AllPass extent_fits es (All-from_recursion _ es h)
 
 -- THE LINE OF A PIECE
 

@@ -1,5 +1,5 @@
 -- Numbers that are written with a space before each are read back.
-use Rattle.std.proofs.Common.{◌≡◌, suc, ◌*◌, ◌≤◌, List, [], ◌∷◌, ◌++◌, length, ℤ, Some, ap, ◌∙◌, arith}
+use Rattle.std.proofs.Common.{◌≡◌, suc, ◌*◌, ◌≤◌, List, [], ◌∷◌, ◌++◌, length, ℤ, Some, arith}
 use Rattle.std.specs.List.{flat_map, AllByRecursion}
 use Rattle.std.specs.Fmt.{signed_decimal}
 use Rattle.std.proofs.ByRecursion.{All-weaker, All-append}
@@ -7,7 +7,7 @@ use Rattle.std.proofs.lemmas.List.{append-nil, length-append}
 use Rattle.text.proofs.Parts.{Lacks, items_parted, items_last}
 use Rattle.text.proofs.Range.{InRange}
 use Rattle.text.specs.Items.{items}
-use Rattle.text.specs.Numerals.{numbers, put_first}
+use Rattle.text.specs.Numerals.{numbers}
 use Rattle.canon.proofs.Numbers.{Small, numeral_signed, signed_bytes, signed_short}
 use Rattle.canon.specs.Canonical.{spaced}
 
@@ -19,14 +19,9 @@ signed_shown z h = All-weaker (InRange 45 57) (InRange 32 126) (λ c k. (omega a
 
 -- the items of a number and of numbers after it
 pub numbers_back : (z : ℤ) (zs : List ℤ) → Small z → AllByRecursion Small zs → numbers (suc (length zs)) (items (signed_decimal z ++ flat_map spaced zs)) ≡ Some (z ∷ zs)
-numbers_back z [] h k =
-    ap (λ t. numbers 1 (items t)) (append-nil (signed_decimal z))
-    ∙ ap (numbers 1) (items_last (signed_decimal z) (signed_whole z h))
-    ∙ ap (λ o. put_first o (Some [])) (numeral_signed z h)
+numbers_back z [] h k = rw (append-nil (signed_decimal z), items_last (signed_decimal z) (signed_whole z h), numeral_signed z h)
 numbers_back z (y ∷ ys) h k =
-    ap (numbers (suc (suc (length ys)))) (items_parted (signed_decimal z) (signed_decimal y ++ flat_map spaced ys) (signed_whole z h))
-    ∙ ap (λ o. put_first o (numbers (suc (length ys)) (items (signed_decimal y ++ flat_map spaced ys)))) (numeral_signed z h)
-    ∙ ap (put_first (Some z)) (numbers_back y ys k.0 k.1)
+    rw (items_parted (signed_decimal z) (signed_decimal y ++ flat_map spaced ys) (signed_whole z h), numeral_signed z h, numbers_back y ys k.0 k.1)
 
 pub spaced_shown : (zs : List ℤ) → AllByRecursion Small zs → AllByRecursion (InRange 32 126) (flat_map spaced zs)
 spaced_shown [] h = tt

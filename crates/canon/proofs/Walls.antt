@@ -1,14 +1,12 @@
 -- A row of the wall map is read back from its line.
-use Rattle.std.proofs.Common.{◌≡◌, ℕ, List, [], ◌∷◌, ◌++◌, map, length, Some, Ok, codes, refl, ap, ◌∙◌, arith}
+use Rattle.std.proofs.Common.{◌≡◌, ℕ, List, [], ◌∷◌, ◌++◌, map, length, Some, Ok, codes, refl, ap, arith}
 use Rattle.std.specs.List.{AllByRecursion}
 use Rattle.std.proofs.lemmas.List.{length-map}
-use Rattle.std.proofs.lemmas.Bool.{cond-true, le-leb}
+use Rattle.std.proofs.lemmas.Bool.{le-leb}
 use Rattle.room.specs.declared.walls.Cell.{Cell}
 use Rattle.room.specs.declared.walls.Cell.TheVariants.{Wall, Open}
 use Rattle.text.proofs.Range.{InRange}
-use Rattle.forms.proofs.Front.{after_front}
-use Rattle.forms.specs.Forms.{letter, cells, cell_first, row, row_fits, says_wall}
-use Rattle.forms.specs.Outcome.{judged, with_some}
+use Rattle.forms.specs.Forms.{letter, cells, cell_first, says_wall}
 use Rattle.sheet.specs.Fits.{RowFits}
 use Rattle.canon.proofs.Lines.{Fit, shown_after}
 use Rattle.canon.specs.Canonical.{row_line}

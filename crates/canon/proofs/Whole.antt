@@ -1,14 +1,13 @@
 -- The canonical text of a plan within the limits: its lines, its length and what it says.
-use Rattle.std.proofs.Common.{◌≡◌, ℕ, ◌+◌, ◌*◌, ◌≤◌, true, List, [], ◌∷◌, ◌++◌, map, length, drop, Ok, Result, sym, ap, ◌∙◌, arith}
+use Rattle.std.proofs.Common.{◌≡◌, ℕ, ◌+◌, ◌*◌, ◌≤◌, true, List, [], ◌∷◌, ◌++◌, map, length, drop, Ok, sym, ap, ◌∙◌, arith}
 use Rattle.std.specs.List.{flat_map, AllByRecursion}
 use Rattle.std.proofs.ByRecursion.{All-weaker, All-append}
 use Rattle.std.proofs.lemmas.List.{append-nil, length-append, length-map, drop-drop, drop_all}
-use Rattle.std.proofs.lemmas.Bool.{cond-false, le-ltb}
+use Rattle.std.proofs.lemmas.Bool.{le-ltb}
 use Rattle.text.specs.Lines.{Line, lines, readable}
 use Rattle.forms.specs.Forms.{says_contents, says_piece, says_before, says_wall}
-use Rattle.forms.specs.Outcome.{and_then}
 use Rattle.sheet.specs.Fits.{Fits, PieceFits, OrderFits, RowFits}
-use Rattle.sheet.specs.Meaning.{meaning, lines_say, bodies, each_says, no_more}
+use Rattle.sheet.specs.Meaning.{meaning, lines_say, bodies}
 use Rattle.sheet.specs.Plan.{Plan, contents_of}
 use Rattle.forms.specs.Within.{Within}
 use Rattle.canon.proofs.Heading.{contents_body, contents_apart, heading_fit, heading_back}
@@ -18,10 +17,6 @@ use Rattle.canon.proofs.Pieces.{piece_body, piece_apart, piece_fit, piece_back}
 use Rattle.canon.proofs.Walls.{row_body, row_apart, row_fit, row_back}
 use Rattle.canon.specs.Canonical.{canonical, contents_line, piece_line, order_line, row_line}
 use Rattle.canon.specs.Kept.{KeepsLimits}
-
--- a result that is there is handed on
-then_back : {A B E : Type 0} (r : Result A E) (x : A) (f : A → Result B E) (s : Result B E) → r ≡ Ok x → f x ≡ s → and_then r f ≡ s
-then_back r x f s e k = ap (λ o. and_then o f) e ∙ k
 
 module _ (p : Plan) (h : Fits p) where
   announceable : Within (contents_of p)
@@ -108,16 +103,20 @@ module _ (p : Plan) (h : Fits p) where
       let after_pieces : drop np ls ≡ order_lines p ++ row_lines p = drop_written piece_body p.pieces (order_lines p ++ row_lines p) in
       let after_orders : drop (np + no) ls ≡ row_lines p = sym (drop-drop no np ls) ∙ ap (drop no) after_pieces ∙ drop_written order_body p.orders (row_lines p) in
       let after_rows : drop (np + no + nr) ls ≡ [] = sym (drop-drop nr (np + no) ls) ∙ ap (drop nr) after_orders ∙ drop_all nr (row_lines p) (omega (arith, length-map p.rows (λ cs. ended (row_body cs)))) in
-      then_back _ p.pieces _ (Ok p) (each_back piece_body (says_piece p.axes) 2 p.pieces (order_lines p ++ row_lines p) (fit_pieces p h) (back_pieces p h))
-      (then_back _ p.orders _ (Ok p) (ap (each_says (says_before p.axes np) (2 + np) no) after_pieces ∙ each_back order_body (says_before p.axes np) (2 + np) p.orders (row_lines p) (fit_orders p h) (back_orders p h))
-      (then_back _ p.rows _ (Ok p) (ap (each_says says_wall (2 + np + no) nr) (after_orders ∙ sym (append-nil (row_lines p))) ∙ each_back row_body says_wall (2 + np + no) p.rows [] (fit_rows p h) (back_rows p h))
-      (ap (λ more. no_more (2 + np + no + nr) more p) after_rows)))
+      rw (
+        each_back piece_body (says_piece p.axes) 2 p.pieces (order_lines p ++ row_lines p) (fit_pieces p h) (back_pieces p h),
+        after_pieces,
+        each_back order_body (says_before p.axes np) (2 + np) p.orders (row_lines p) (fit_orders p h) (back_orders p h),
+        after_orders ∙ sym (append-nil (row_lines p)),
+        each_back row_body says_wall (2 + np + no) p.rows [] (fit_rows p h) (back_rows p h),
+        after_rows,
+      )
 
   says_back : lines_say (ended (contents_body (contents_of p)) ∷ body_lines p) ≡ Ok p
-  says_back = then_back _ (contents_of p) _ (Ok p) (line_back says_contents 1 (contents_body (contents_of p)) (body_lines p) (contents_of p) (heading_fit (contents_of p) (announceable p h)) (heading_back (contents_of p) (announceable p h))) bodies_back
+  says_back = rw (line_back says_contents 1 (contents_body (contents_of p)) (body_lines p) (contents_of p) (heading_fit (contents_of p) (announceable p h)) (heading_back (contents_of p) (announceable p h))) bodies_back
 
 pub reads_back : (p : Plan) → Fits p → meaning (canonical p) ≡ Ok p
-reads_back p h = cond-false _ _ _ (le-ltb 16384 (length (canonical p)) (canonical_short p h)) ∙ ap lines_say (canonical_lines p h) ∙ says_back p h
+reads_back p h = rw (le-ltb 16384 (length (canonical p)) (canonical_short p h), canonical_lines p h) (says_back p h)
 
 pub written_keeps_limits : (p : Plan) → Fits p → KeepsLimits (canonical p)
 written_keeps_limits p h = record { short = canonical_short p h; each_line = rw (canonical_lines p h) (canonical_readable p h) }

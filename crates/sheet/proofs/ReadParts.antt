@@ -1,11 +1,12 @@
 -- What a line says once it is read, and what lines in a row say: each part keeps its limits.
 use Rattle.std.proofs.Common.{◌≡◌, ℕ, zero, suc, ◌+◌, ◌*◌, ◌<◌, ◌≤◌, true, List, [], ◌∷◌, length, get_or, drop, ℤ, pos, ◌≤ℤ◌, Some, None, Ok, Err, codes, Option, Result, refl, ap, subst, arith}
-use lib.Signed.{le_z}
 use Rattle.std.specs.Option.{option_map}
 use Rattle.std.specs.List.{AllByRecursion}
 use Rattle.std.proofs.lemmas.List.FromFn.{length-map-range_with_len}
-use Rattle.std.proofs.lemmas.Int.{ints}
 use Rattle.std.proofs.lemmas.Bool.{and_parts, leb-true, ltb-true, eqb-false, not-true}
+use Rattle.std.proofs.lemmas.List.Elements.{recursion_from_All}
+use Rattle.std.proofs.lemmas.List.Sums.{AllPass-from_list_all}
+use Rattle.room.proofs.Cuts.{decides_int_le}
 use Rattle.room.specs.Limits.{extent_fits}
 use Rattle.room.specs.declared.orders.Order.{Order}
 use Rattle.room.specs.declared.piece.Extent.{Extent}
@@ -68,8 +69,7 @@ each_says_all P says sound number (suc n) ls xs e =
 
 -- extents that pass the test fit, each of them
 extents_all : (es : List Extent) → extents_fit es ≡ true → AllByRecursion (λ e. extent_fits e ≡ true) es
-extents_all [] h = tt
-extents_all (e ∷ es) h = let p = and_parts (extent_fits e) (extents_fit es) h in (p.0, extents_all es p.1)
+extents_all es h = recursion_from_All _ es (AllPass-from_list_all extent_fits es h)
 
 -- a piece line gives an extent within the limits on each axis
 pub piece_fits : (axes : ℕ) (body : List ℕ) (es : List Extent) → says_piece axes body ≡ Ok es → PieceFits axes es
@@ -91,10 +91,7 @@ below_count n (ℤ.negsuc k) e = cc
 
 -- a number that passes the test lies between the two ends
 between_order : (low high : ℕ) (z : ℤ) → between low high z ≡ true → (pos low ≤ℤ z) × (z ≤ℤ pos high)
-between_order low high z e = let p = and_parts (le_z (pos low) z) (le_z z (pos high)) e in (from_test (pos low) z p.0, from_test z (pos high) p.1)
-  where
-    from_test : (a b : ℤ) → le_z a b ≡ true → a ≤ℤ b
-    from_test a b h = grind (arith, ints)
+between_order low high z e = let p = and_parts _ _ e in ((decides_int_le (pos low) z).0 p.0, (decides_int_le z (pos high)).0 p.1)
 
 -- numbers that pass the test make an order within the limits
 order_within : (axes pieces : ℕ) (ns : List ℤ) → order_fits axes pieces ns ≡ true → OrderFits axes pieces (order_from ns)
