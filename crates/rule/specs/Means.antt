@@ -1,15 +1,7 @@
 -- What the answers of a rule mean. Which points of a piece are shut is given as a test of points.
 use Rattle.std.specs.Prelude.{◌≡◌, ℕ, ◌<◌, Bool, true, false, cond, List, length, pos, neg_ℤ, ◌≤ℤ◌, Some, None, Option, MatchOption, nat_le, slice_index_or}
-use Rattle.room.specs.Fit.{Board}
 use Rattle.room.specs.Seen.{Room, Point, Box, Within, Holds, box_of}
-use Rattle.room.specs.declared.piece.Piece.{Piece}
 use Rattle.room.specs.declared.region.Region.{Region}
-
--- a rule may be asked of a piece: the records are a board, which the rule suits, and the piece is one of it
-pub record Asked (suited : ℕ → ℕ → Bool) (k : ℕ) (records : List Piece) (p : ℕ) : Type 0 where
-  pub board : Board k records
-  pub suits : suited k (length records) ≡ true
-  pub known : p < length records
 
 -- box ends lie within plus and minus this
 abbrev pub max_box_end : ℕ
