@@ -20,6 +20,7 @@ pub fn fill<I: Read>(input: &mut I, buffer: &mut [u8]) -> io::Result<usize>
     ensures bytes { IfOk result (λ n. Consumes (I.remaining input.old) (I.remaining input.new) (take n buffer.new)) }
     ensures end { IfOk result (λ n. n < length buffer.new → IsAtEnd (I.remaining input.new)) }
 {
+    // the library fills a whole buffer or fails, or reads into one that grows
     let mut filled = 0;
     while filled < buffer.len() {
         let got = input.read(&mut buffer[filled..])?;

@@ -1,6 +1,7 @@
 //! The limits of every room.
 
-/// Axes of a board: 1 to this.
+/// Axes of a board: 1 to this. An axis is a plain number, as in orders and sheets: a type of its own would be unwrapped at
+/// each array that it is a place in.
 pub const MAX_AXES: usize = 3;
 /// Pieces of a board: 1 to this.
 pub const MAX_PIECES: usize = 24;

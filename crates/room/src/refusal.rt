@@ -43,7 +43,7 @@ pub enum Refusal {
     Unsuited,
 }
 
-/// What a refusal tells.
+/// What a refusal tells. The number is a number, as it is what is printed; which case it is of is the `Refusal`.
 #[derive(Clone, Copy)]
 pub struct Told {
     pub number: u8,

@@ -149,6 +149,7 @@ impl<'a, R: Rule> Canvas<'a, R> {
     fn put_ranges(&self, region: &Region, out: &mut String) -> fmt::Result
         ensures { OnOk result (string_bytes out.new ≡ string_bytes out.old ++ ranges_text self.now.subject.axes (lows region.now) (highs region.now)) }
     {
+        // by the axis: of a slice of the ranges, this proof does not learn how many there are
         for axis in 0..self.subject.axes {
             let Span { lower, upper } = region.spans[axis];
             write!(out, " {lower}..{upper}")?;

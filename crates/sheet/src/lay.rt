@@ -29,6 +29,7 @@ fn lay_piece(piece: &mut Piece, extents: &[Extent])
     requires { length extents.now ≤ 3 }
     ensures { piece.new ≡ laid extents.now piece.old }
 {
+    // by the axis, which is a place in three arrays of a record
     for (axis, extent) in extents.iter().enumerate() {
         lay_axis(piece, axis, extent);
     }
@@ -39,6 +40,7 @@ fn lay_pieces(records: &mut [Piece], pieces: &[Extents])
     requires { length pieces.now ≤ length records.old }
     ensures { records.new ≡ laid_all (map (λ es. listed es) pieces.now) records.old }
 {
+    // by the number: over `iter_mut` and `zip` the proof does not close
     for (i, extents) in pieces.iter().enumerate() {
         lay_piece(&mut records[i], extents.as_slice());
     }
