@@ -1,5 +1,5 @@
 -- A plan that is read is within the limits.
-use Rattle.std.proofs.Common.{◌≡◌, ℕ, ◌+◌, ltb, List, [], ◌∷◌, length, drop, Ok, Err, subst, arith}
+use Rattle.std.proofs.Common.{◌≡◌, ℕ, ◌+◌, ltb, List, [], ◌∷◌, length, drop, Ok, Err, sym, subst, arith}
 use Rattle.std.specs.List.{AllByRecursion}
 use Rattle.std.proofs.lemmas.Bool.{cond_both}
 use Rattle.room.specs.declared.orders.Order.{Order}
@@ -56,12 +56,15 @@ module _ (c : Contents) (within : Within c) where
       (each_says_all (OrderFits c.axes c.pieces) (says_before c.axes c.pieces) (order_line_fits c.axes c.pieces) _ _ _ os.0 os.1)
       (each_says_all RowFits says_wall wall_line_fits _ _ _ rs.0 rs.1))
 
+-- what a line announces is within the limits
+pub announced_fit : (number : ℕ) (ls : List Line) (c : Contents) → Ok c ≡ line_says says_contents number ls → Within c
+announced_fit number ls c e = let said = line_says_ok says_contents number ls c (sym e) in contents_within said.0 c said.1
+
 -- what the lines of a sheet say is within the limits
 lines_fit : (ls : List Line) (p : Plan) → lines_say ls ≡ Ok p → Fits p
 lines_fit ls p e =
     let front = and_then_ok (line_says says_contents 1 ls) _ p e in
-    let said = line_says_ok says_contents 1 ls front.0 front.1 in
-    bodies_fit front.0 (contents_within said.0 front.0 said.1) (drop 1 ls) p front.2
+    bodies_fit front.0 (announced_fit 1 ls front.0 (sym front.1)) (drop 1 ls) p front.2
 
 -- a text that is read is within the limits
 pub read_fits : (text : List ℕ) (p : Plan) → meaning text ≡ Ok p → Fits p

@@ -24,7 +24,7 @@ use room::walls::{Cell, WallMap};
 /// A sheet may have this many bytes.
 pub const MAX_SHEET: usize = 16_384;
 
-/// A sheet that was read: the axes, the mode, the extents of each piece, the orders and the wall map.
+/// A sheet that was read, within the limits: the axes, the mode, the extents of each piece, the orders and the wall map.
 #[derive(Clone, Copy)]
 pub struct Sheet {
     axes: usize,

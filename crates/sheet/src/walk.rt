@@ -92,6 +92,7 @@ impl<'a> Lines<'a> {
     {
         let mut items = ArrayVec::new(blank);
         for _ in 0..count {
+            // There is room for as many as are read.
             let _ = items.push(self.read(form)?);
         }
         Ok(items)

@@ -2,7 +2,7 @@ use Rattle.std.proofs.Common.{sym, ◌∙◌, arith}
 use Rattle.std.proofs.lemmas.List.{map-id}
 use Rattle.std.proofs.lemmas.Result.{err_from_is_err_and}
 use Rattle.sheet.proofs.Bodies.{pieces_refused, orders_refused, walls_refused, closed}
-use Rattle.sheet.proofs.ReadFits.{read_fits}
+use Rattle.sheet.proofs.ReadFits.{announced_fit, read_fits}
 use Rattle.sheet.proofs.reader.Sheet.read.Goals as goal
 
 pub returns-in_err-extents : goal.returns-in_err-extents
@@ -23,6 +23,9 @@ returns-in_err-orders c =
           rw (refused.1, refused.2)
           (orders_refused c.args.text.now _ _ _ (omega arith) c.of-lines.ensures first.says first.left _ _ pieces.say pieces.left _ c.in_err-orders.ensures.say);
     }
+
+pub read_each-requires-3 : goal.read_each-requires-3
+read_each-requires-3 c = let within = announced_fit c.of-lines.result.number c.of-lines.result.left _ c.in_ok-axes.ensures.says in (omega arith, within.rows_to)
 
 pub returns-in_err-walls : goal.returns-in_err-walls
 returns-in_err-walls c =
