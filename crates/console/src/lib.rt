@@ -41,6 +41,7 @@ pub fn answer<I: Read, F: FnOnce(Global, &[u8]) -> Result<String, AllocError>>(
     requires { F.IsAlwaysCallable reply }
     ensures { IfOk result (λ text. (given : _) × CutAt ROOM (I.remaining input.old) given.now × F.post reply heap given (Ok text)) }
 {
+    // fixed memory: a longer input is refused, and not held
     let mut buffer = [0u8; ROOM];
     let filled = fill(input, &mut buffer)?;
     Ok(reply(heap, &buffer[..filled])?)

@@ -49,6 +49,7 @@ impl LineForm for BeforeLine {
     ghost says = { λ form body. says_before form.axes form.pieces body };
 
     fn read(&self, body: &[u8]) -> Result<Order, Fault> {
+        // the case of an enum, whose others are all one fault
         let Some(Line::Before(text)) = classify(body) else {
             return Err(Fault::Form);
         };

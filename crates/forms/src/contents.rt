@@ -109,6 +109,7 @@ impl LineForm for ContentsLine {
     ghost says = { λ _ body. says_contents body };
 
     fn read(&self, body: &[u8]) -> Result<Contents, Fault> {
+        // the case of an enum, whose others are all one fault
         let Some(Line::Contents(text)) = classify(body) else {
             return Err(Fault::Form);
         };

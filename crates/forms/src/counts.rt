@@ -17,7 +17,8 @@ pub fn count_within(n: i32, low: usize, high: usize) -> Result<usize, Fault>
 }
 
 /// A number as a count, where it lies within 0 to one below `limit`.
-// Not `count_within` of 0 to `limit - 1`: below a limit of 0 there is no count.
+// Two functions: over the trait of both kinds of ranges the proofs of the callers do not close, and below a limit of 0 there is
+// no range with its ends.
 pub fn count_below(n: i32, limit: usize) -> Result<usize, Fault>
     ensures { result ≡ in_range (below limit n) (count_of n) }
 {

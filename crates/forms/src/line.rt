@@ -11,8 +11,7 @@ pub enum Line<'a> {
     Wall(&'a [u8]),
 }
 
-/// The line by its first word; nothing where it begins with none of them. A kind of line takes its own case by `let .. else`, as
-/// the other cases are all one fault.
+/// The line by its first word; nothing where it begins with none of them.
 pub fn classify(body: &[u8]) -> Option<Line<'_>>
     ensures { Classified body.now result }
 {

@@ -33,6 +33,7 @@ impl PieceLine {
     {
         let mut lengths: ArrayVec<i32, MAX_AXES> = ArrayVec::new(0);
         for _ in 0..self.axes {
+            // there is room: a board has no more axes than a list of extents
             let _ = lengths.push(items.number()?);
         }
         let mut extents = ArrayVec::new(NO_EXTENT);
@@ -64,6 +65,7 @@ impl LineForm for PieceLine {
     ghost says = { λ form body. says_piece form.axes body };
 
     fn read(&self, body: &[u8]) -> Result<Extents, Fault> {
+        // the case of an enum, whose others are all one fault
         let Some(Line::Piece(text)) = classify(body) else {
             return Err(Fault::Form);
         };

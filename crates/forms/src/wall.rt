@@ -34,6 +34,7 @@ fn cells(letters: &[u8]) -> Option<Row>
 {
     let mut row = ArrayVec::new(Cell::Open);
     for letter in letters {
+        // cells past a row's room need not be held: such a line is refused
         let _ = row.push(cell(*letter)?);
     }
     Some(row)
@@ -49,6 +50,7 @@ impl LineForm for WallLine {
     ghost says = { λ _ body. says_wall body };
 
     fn read(&self, body: &[u8]) -> Result<Row, Fault> {
+        // the case of an enum, whose others are all one fault
         let Some(Line::Wall(letters)) = classify(body) else {
             return Err(Fault::Form);
         };

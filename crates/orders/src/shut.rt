@@ -20,6 +20,8 @@ pub struct Applied<'a> {
 }
 
 impl<'a> Applied<'a> {
+    // two functions: they differ in every operand
+
     /// The least origin of the piece before that is shut: there it reaches past the upper end of the other.
     fn first_shut(&self) -> i32
         ensures { result ≡ first_shut (room_seen self.now.subject) self.now.entry.now }

@@ -6,7 +6,7 @@ ghost use Rattle.overlap.specs.Ends.{PairLimits};
 use room::piece::Piece;
 use room::point::Point;
 use room::region::Region;
-use room::span::Span;
+use room::span::{NO_SPAN, Span};
 use rule::subject::Subject;
 use std::array::from_fn;
 
@@ -19,9 +19,6 @@ pub(crate) struct Pair<'a> {
     ghost few: { axes ≤ 3 },
     ghost limits: { (d : ℕ) → d < axes → PairLimits asked.now.lengths other.now d },
 }
-
-/// Stands on the axes that the board does not use.
-const NO_SPAN: Span = Span { lower: 0, upper: 0 };
 
 impl<'a> Pair<'a> {
     ghost use Rattle.std.specs.Prelude.{◌≡◌};

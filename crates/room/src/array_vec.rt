@@ -4,6 +4,7 @@ ghost use Rattle.std.specs.Prelude.{◌≡◌, ◌≤◌, [], ◌∷◌, ◌++�
 ghost use Rattle.room.specs.Listed.{listed};
 
 /// A list with room for N items.
+// The library's is not `Copy`, and a map that is lent is copied into its rule, which cannot fail.
 #[derive(Clone, Copy)]
 pub struct ArrayVec<T, const N: usize> {
     len: usize,

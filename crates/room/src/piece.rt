@@ -7,7 +7,7 @@ ghost use Rattle.room.specs.Seen.{bounds_box, box_of};
 
 use crate::limits::{MAX_AXES, MAX_END, MAX_LENGTH};
 use crate::region::Region;
-use crate::span::Span;
+use crate::span::{NO_SPAN, Span};
 
 /// A piece's record. It lies in lent memory, so its numbers may be anything until they are looked at. The lengths stand
 /// beside the boxes, as a box is compared, cut and copied whole.
@@ -19,7 +19,7 @@ pub struct Piece {
 }
 
 const NO_BOUNDS: Region = Region {
-    spans: [Span { lower: 0, upper: 0 }; MAX_AXES],
+    spans: [NO_SPAN; MAX_AXES],
 };
 
 /// Fills records that are not in use.
@@ -39,7 +39,7 @@ pub struct Extent {
 /// Fills places that are not in use.
 pub const NO_EXTENT: Extent = Extent {
     length: 0,
-    span: Span { lower: 0, upper: 0 },
+    span: NO_SPAN,
 };
 
 /// All origins that there are on an axis.
@@ -53,7 +53,7 @@ impl Extent {
     pub fn fits(&self) -> bool
         ensures { result ≡ extent_fits self.now }
     {
-        0 <= self.length && self.length <= MAX_LENGTH && self.span.is_inside(&ORIGINS)
+        (0..=MAX_LENGTH).contains(&self.length) && self.span.is_inside(&ORIGINS)
     }
 }
 

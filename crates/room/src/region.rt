@@ -39,6 +39,7 @@ impl Region {
         region
     }
 
+    // two functions of one shape: of a test that is passed in, only its calls are known
     fn spans_hold(&self, axes: usize, origins: &[i32; MAX_AXES]) -> bool
         ensures { result ≡ spans_hold axes self.now.spans origins.now }
     {

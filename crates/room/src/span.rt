@@ -10,12 +10,15 @@ pub struct Span {
     pub upper: i32,
 }
 
+/// The one origin 0; stands on axes that a board does not use.
+pub const NO_SPAN: Span = Span { lower: 0, upper: 0 };
+
 impl Span {
     /// Whether the origin lies in the range.
     pub fn holds(&self, origin: i32) -> bool
         ensures { result ≡ span_holds self.now origin }
     {
-        self.lower <= origin && origin <= self.upper
+        (self.lower..=self.upper).contains(&origin)
     }
 
     /// Whether some origin lies in the range.
@@ -25,7 +28,7 @@ impl Span {
         self.lower <= self.upper
     }
 
-    /// Whether it is a range, some origin lies in it, that lies inside another.
+    /// Whether some origin lies in the range, and the range lies inside another.
     pub fn is_inside(&self, outer: &Span) -> bool
         ensures { result ≡ span_inside self.now outer.now }
     {

@@ -39,7 +39,7 @@ pub fn count_boxes<S: Sources>(rule: &S, subject: &Subject<'_>) -> Option<usize>
     requires { Suits (S.serves rule.now) subject.now }
     ensures { result ≡ counted (length (gathered_there (S.given rule.now) (S.many rule.now) subject.now)) }
 {
-    // what a source gives is known up to the axes of the board, which is no value that `filter` and `count` could carry
+    // no `filter` and `count`: of a closure that asks a rule of a type parameter nothing is known
     let mut boxes = 0;
     for source in 0..rule.sources(subject) {
         if rule.source_box(subject, source).is_some() {
@@ -56,6 +56,7 @@ pub fn listed_box<S: Sources>(rule: &S, subject: &Subject<'_>, number: usize) ->
     requires there { number < length (gathered_there (S.given rule.now) (S.many rule.now) subject.now) }
     ensures { SameBox subject.now.axes (box_of result) (box_at (gathered_there (S.given rule.now) (S.many rule.now) subject.now) number) }
 {
+    // no `filter_map` and `nth`, likewise
     let mut left = number;
     for source in 0..rule.sources(subject) {
         if let Some(region) = rule.source_box(subject, source) {

@@ -19,7 +19,7 @@ const OUT_OF_RANGE: Refusal = Refusal::OutOfRange { layer: Layer::Rule };
 fn is_board_range(axes: usize, pieces: usize) -> bool
     ensures { result ≡ board_range axes pieces }
 {
-    1 <= axes && axes <= MAX_AXES && 1 <= pieces && pieces <= MAX_PIECES
+    (1..=MAX_AXES).contains(&axes) && (1..=MAX_PIECES).contains(&pieces)
 }
 
 /// Whether the rule suits a board of so many axes and pieces.

@@ -14,7 +14,7 @@ use answer::Unanswered;
 use room::piece::Piece;
 use room::point::Point;
 use room::region::Region;
-use room::span::Span;
+use room::span::{NO_SPAN, Span};
 use rule::interface::{MAX_LISTED, Rule};
 use rule::questions::Question;
 use rule::subject::Subject;
@@ -23,9 +23,6 @@ use std::fmt;
 
 /// A picture has this many cells at most.
 const MAX_CELLS: usize = 4096;
-
-/// The one origin on an axis that the board does not use.
-const ORIGIN: Span = Span { lower: 0, upper: 0 };
 
 /// Writes the letter of an origin.
 fn put_letter(is_shut: bool, out: &mut String) -> fmt::Result
@@ -44,7 +41,7 @@ impl<'a, R: Rule> Canvas<'a, R> {
         if axis < self.subject.axes {
             self.subject.record().present.spans[axis]
         } else {
-            ORIGIN
+            NO_SPAN
         }
     }
 
@@ -54,6 +51,7 @@ impl<'a, R: Rule> Canvas<'a, R> {
         ensures small { result ≤ 2000001 }
     {
         let Span { lower, upper } = self.span(axis);
+        // casts, here and below: the check proves that the numbers fit
         (upper - lower) as usize + 1
     }
 
@@ -96,6 +94,8 @@ impl<'a, R: Rule> Canvas<'a, R> {
         let point = self.point(plane, row, column);
         self.rule.cover(&self.subject, &point).is_some()
     }
+
+    // A picture's three loops are of one line each, over the numbers of an axis: a function over a closure would be longer.
 
     /// Writes the origins along axis 0.
     fn put_row(&self, plane: usize, row: usize, out: &mut String) -> fmt::Result

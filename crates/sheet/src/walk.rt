@@ -16,6 +16,7 @@ use std::marker::Model;
 use text::lines::{is_readable, split_line};
 
 /// A fault in a line, told with the line's number.
+// No `From`: neither type is of this crate.
 fn refusal(fault: Fault, line: usize) -> Refusal
     ensures { result ≡ refusal_at line fault }
 {

@@ -89,6 +89,7 @@ fn reach(length: i32, cells: &Range<usize>) -> Span
     ensures { result ≡ reach length cells.now }
 {
     Span {
+        // casts: the check proves that the numbers fit
         lower: cells.start as i32 - length + 1,
         upper: cells.end as i32 - 1,
     }
@@ -147,6 +148,8 @@ impl WallRule {
         }
         None
     }
+
+    // That the place is a wall is asked by these three alone, which are of one call: a type for it would be longer.
 
     /// The rows of the whole run of walls that a wall stands in, in its column.
     fn run_around(&self, place: Place) -> Range<usize>

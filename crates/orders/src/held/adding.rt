@@ -20,8 +20,7 @@ fn is_legal(order: &Order) -> bool
     order.before < MAX_PIECES
         && order.after < MAX_PIECES
         && order.axis < MAX_AXES
-        && 0 <= order.gap
-        && order.gap <= MAX_LENGTH
+        && (0..=MAX_LENGTH).contains(&order.gap)
         && order.before != order.after
 }
 
