@@ -1,5 +1,5 @@
 -- Two rules held together: what they list, one after the other, and which placements keep them.
-use Rattle.std.proofs.Common.{◌≡◌, ℕ, ◌+◌, ◌-◌, ◌<◌, ◌≤◌, min, nat_le, cond, Bool, true, false, ◌||◌, List, ◌++◌, length, Some, None, Option, unwrap_or, sym, refl, ap, ◌∙◌, subst, ⊎_elim, arith}
+use Rattle.std.proofs.Common.{◌≡◌, ℕ, ◌+◌, ◌-◌, ◌<◌, ◌≤◌, nat_le, cond, Bool, true, false, ◌||◌, List, ◌++◌, length, Some, None, Option, sym, refl, ap, ◌∙◌, subst, ⊎_elim, arith}
 use Rattle.std.specs.Bool.{then_some}
 use Rattle.std.proofs.lemmas.List.{get_or_append_left, get_or-append_right, length-append}
 use Rattle.std.proofs.lemmas.Bool.{cases_lt, cond-true, cond-false, le-leb, lt-leb, or_cases, or_from, or_left, or_parts, or_right}
@@ -26,13 +26,6 @@ counted_is n m e =
 
 counted_past : (n : ℕ) → None ≡ counted n → max_listed < n
 counted_past n e = counted_by n None e (λ h s. let z : ◌≡◌ {A = ℕ} 0 1 = cc in absurd (omega arith)) (λ h s. h)
-
--- the count, or the most that is counted
-pub counted_or : (n first : ℕ) (o : Option ℕ) → first ≡ unwrap_or o max_listed → o ≡ counted n → first ≡ min n max_listed
-counted_or n first o is e =
-    counted_by n o e
-    (λ h s. is ∙ ap (λ t. unwrap_or t max_listed) s ∙ omega arith)
-    (λ h s. is ∙ ap (λ t. unwrap_or t max_listed) s ∙ omega arith)
 
 pub some_then : (b : Bool) (n : ℕ) → then_some b n ≡ cond b (Some n) None
 some_then true n = refl

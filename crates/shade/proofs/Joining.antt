@@ -1,10 +1,8 @@
 -- Texts written one after another.
-use Rattle.std.proofs.Common.{◌≡◌, ℕ, zero, suc, ◌+◌, ◌<◌, Bool, true, false, cond, List, [], ◌∷◌, ◌++◌, ℤ, sym, refl, ap, ◌∙◌, arith}
+use Rattle.std.proofs.Common.{◌≡◌, ℕ, zero, suc, ◌+◌, ◌<◌, List, [], ◌∷◌, ◌++◌, ℤ, sym, refl, ap, ◌∙◌, arith}
 use Rattle.std.specs.List.{range_with_len, flat_map}
 use Rattle.std.proofs.lemmas.List.FromFn.{map-range_with_len_more}
 use Rattle.std.proofs.lemmas.List.{flat_map_more, map-id}
-use Rattle.std.proofs.lemmas.Bool.{cond-true, cond-false}
-use Rattle.text.proofs.Writes.{two_writes}
 use Rattle.shade.specs.Picture.{range_text, ranges_text}
 
 counting_more : (i : ℕ) → range_with_len 0 (i + 1) ≡ range_with_len 0 i ++ i ∷ []
@@ -31,11 +29,3 @@ same_from f g a (suc n) same =
 pub ranges_same : (k : ℕ) (low high low₁ high₁ : ℕ → ℤ) (before after : List ℕ) → ((d : ℕ) → d < k → low d ≡ low₁ d) → ((d : ℕ) → d < k → high d ≡ high₁ d) → after ≡ before ++ ranges_text k low high → after ≡ before ++ ranges_text k low₁ high₁
 ranges_same k low high low₁ high₁ before after lows highs e =
     e ∙ ap (λ bs. before ++ bs) (same_from (range_text low high) (range_text low₁ high₁) 0 k (λ d h. let l = lows d (omega arith) in let u = highs d (omega arith) in cc))
-
--- after two writes, the second of which a test chose
-module _ (b₀ b₁ b₂ x y z : List ℕ) (test : Bool) (first : b₁ ≡ b₀ ++ x) where
-  pub written_then : test ≡ true → b₂ ≡ b₁ ++ y → b₂ ≡ b₀ ++ (x ++ cond test y z)
-  written_then e second = two_writes b₀ b₁ b₂ x y first second ∙ ap (λ bs. b₀ ++ (x ++ bs)) (sym (cond-true test y z e))
-
-  pub written_else : test ≡ false → b₂ ≡ b₁ ++ z → b₂ ≡ b₀ ++ (x ++ cond test y z)
-  written_else e second = two_writes b₀ b₁ b₂ x z first second ∙ ap (λ bs. b₀ ++ (x ++ bs)) (sym (cond-false test y z e))

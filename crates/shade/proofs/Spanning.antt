@@ -1,13 +1,11 @@
 -- The ends of a piece on an axis.
-use Rattle.std.proofs.Common.{◌≡◌, ℕ, ◌<◌, ◌≤◌, Bool, List, [], ◌∷◌, length, ℤ, pos, ◌≤ℤ◌, is_some, Some, None, Option, sym, refl, ap, ◌∙◌, ⊎_elim, arith}
+use Rattle.std.proofs.Common.{◌≡◌, ℕ, ◌<◌, ◌≤◌, List, [], ◌∷◌, length, ℤ, pos, ◌≤ℤ◌, sym, refl, ap, ◌∙◌, ⊎_elim, arith}
 use Rattle.std.proofs.lemmas.Int.{ints}
 use Rattle.std.proofs.lemmas.Bool.{cases_lt}
 use Rattle.room.specs.Fit.{Board}
-use Rattle.room.specs.Seen.{Point, Room, Within, at, highs, lows, on_axis, point_of, room_of}
+use Rattle.room.specs.Seen.{Room, Within, at, highs, lows, on_axis, point_of, room_of}
 use Rattle.room.specs.declared.piece.Piece.{Piece}
-use Rattle.room.specs.declared.region.Region.{Region}
 use Rattle.room.proofs.Cuts.{by_axis, cut_below, cut_past}
-use Rattle.rule.specs.Means.{Covered}
 use Rattle.shade.specs.Canvas.{Spans}
 use Rattle.shade.specs.Picture.{breadth, origin}
 
@@ -55,8 +53,3 @@ module _ (k : ℕ) (records : List Piece) (p plane row column : ℕ) (xs : List 
         under = λ d h. let e = at d h in let t = each d (omega arith) in omega (arith, ints);
         flat = cut_past k (on_axis xs);
       }
-
--- a point within the bounds is shut where a box answers for it
-pub covered_shut : (k : ℕ) (r : Room) (p : ℕ) (shut : Point → Bool) (xs ys : List ℤ) (answer : Option Region) → Within k r p (point_of k xs) → Covered k r p shut (point_of k xs) answer → xs ≡ ys → is_some answer ≡ shut (point_of k ys)
-covered_shut k r p shut xs ys (Some region) within covers e = sym (covers.shuts (point_of k xs) within covers.holds) ∙ ap (λ zs. shut (point_of k zs)) e
-covered_shut k r p shut xs ys None within free e = sym free ∙ ap (λ zs. shut (point_of k zs)) e
