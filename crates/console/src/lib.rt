@@ -4,7 +4,7 @@
 
 ghost use Rattle.std.specs.Prelude.{◌≤◌, ◌<◌, length, take, IfOk, Ok};
 ghost use Rattle.std.specs.Io.KnownBytes.{Consumes, IsAtEnd};
-ghost use Rattle.console.specs.Reading.{CutAt};
+ghost use Rattle.console.specs.Reading.{CutAt, max_read};
 
 use sheet::reader::MAX_SHEET;
 use std::alloc::{AllocError, Global};
@@ -39,7 +39,7 @@ pub fn answer<I: Read, F: FnOnce(Global, &[u8]) -> Result<String, AllocError>>(
     heap: Global,
 ) -> anyhow::Result<String>
     requires { F.IsAlwaysCallable reply }
-    ensures { IfOk result (λ text. (given : _) × CutAt ROOM (I.remaining input.old) given.now × F.post reply heap given (Ok text)) }
+    ensures { IfOk result (λ text. (given : _) × CutAt max_read (I.remaining input.old) given.now × F.post reply heap given (Ok text)) }
 {
     // fixed memory: a longer input is refused, and not held
     let mut buffer = [0u8; ROOM];
