@@ -49,6 +49,16 @@ impl Canonical for Contents {
     }
 }
 
+/// An extent on its own is written as its ends, each after a space: in a piece line, all lengths stand before the ends.
+impl Canonical for Extent {
+    ghost written = { λ e. spaced e.span.lower ++ spaced e.span.upper };
+
+    fn put(&self, out: &mut String) -> Result<(), AllocError> {
+        let Span { lower, upper } = self.span;
+        write!(out, " {lower} {upper}")
+    }
+}
+
 impl Canonical for Extents {
     ghost written = { λ es. piece_line (listed es) };
 
@@ -58,10 +68,7 @@ impl Canonical for Extents {
         for Extent { length, .. } in extents {
             write!(out, " {length}")?;
         }
-        for Extent { span, .. } in extents {
-            let Span { lower, upper } = span;
-            write!(out, " {lower} {upper}")?;
-        }
+        put_each(extents, out)?;
         write!(out, "\n")
     }
 }

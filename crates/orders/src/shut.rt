@@ -1,7 +1,7 @@
 //! The box of points that one entry shuts.
 
-ghost use Rattle.std.specs.Prelude.{◌≡◌};
-ghost use Rattle.room.specs.Seen.{box_of};
+ghost use Rattle.std.specs.Prelude.{◌≡◌, ℕ, ◌≤◌};
+ghost use Rattle.room.specs.Seen.{at, box_of, span_at};
 ghost use Rattle.rule.specs.Means.{SameBox};
 ghost use Rattle.rule.specs.Subjects.{room_seen};
 ghost use Rattle.orders.specs.Boxes.{Applies, first_shut, last_shut, order_box, order_span};
@@ -57,7 +57,8 @@ impl<'a> Applied<'a> {
 
     /// The points within the bounds of the piece that the entry shuts.
     pub fn region(&self) -> Region
-        ensures { SameBox self.now.subject.axes (box_of result) (order_box (room_seen self.now.subject) self.now.subject.piece self.now.entry.now) }
+        ensures shut { SameBox self.now.subject.axes (box_of result) (order_box (room_seen self.now.subject) self.now.subject.piece self.now.entry.now) }
+        ensures past { (d : ℕ) → self.now.subject.axes ≤ d → span_at result d ≡ span_at (at self.now.subject.records.now self.now.subject.piece).present d }
     {
         let bounds = &self.subject.record().present;
         bounds.with_span(self.entry.axis, self.span())

@@ -72,7 +72,13 @@ impl<'a> Pair<'a> {
     pub fn clashes_at(&self, point: &Point) -> bool
         ensures { result ≡ holds self.now.axes (pair_box self.now) (on_axis point.now.origins) }
     {
-        (0..self.axes).all(|axis| self.span(axis).holds(point.origins[axis]))
+        // a loop: `all` within the loop over the records is compiled to more work
+        for axis in 0..self.axes {
+            if !self.span(axis).holds(point.origins[axis]) {
+                return false;
+            }
+        }
+        true
     }
 
     /// Whether a length of the two is 0 on some axis.

@@ -1,7 +1,7 @@
 -- Tests of the numbers below n, and what they tell.
 use Rattle.std.proofs.Common.{◌≡◌, ℕ, zero, suc, ◌+◌, ◌<◌, ◌≤◌, Bool, true, false, ◌⊎◌, List, [], ◌∷◌, length, take, zip, slice_index_or, Decides, refl, ap, ◌∙◌, subst, inl, inr, ⊎_elim, arith}
 use Rattle.std.specs.List.{list_all, list_any, range_with_len}
-use Rattle.std.proofs.lemmas.Bool.{cases_Bool, cases_eq, cases_lt, false≢true}
+use Rattle.std.proofs.lemmas.Bool.{both_ways, cases_Bool, cases_eq, cases_lt, false≢true}
 use Rattle.std.proofs.lemmas.Bool.Decides.{Decides-and, Decides-like, Decides-or}
 use Rattle.room.specs.Below.{all_below, any_below}
 
@@ -39,6 +39,12 @@ passes b = (λ e. e, λ e. e)
 pub false_from : {P : Type 0} (b : Bool) → Decides b P → (P → ⊥) → b ≡ false
 false_from true d n = absurd (n (d.0 refl))
 false_from false d n = refl
+
+pub all_fails : (f : ℕ → Bool) (n k : ℕ) → k < n → f k ≡ false → all_below f n ≡ false
+all_fails f n k h e = false_from (all_below f n) (decides_all f (λ i. f i ≡ true) (λ i. passes (f i)) n) (λ every. both_ways (f k) e (every k h))
+
+pub all_passes : (f : ℕ → Bool) (n : ℕ) → ((k : ℕ) → k < n → f k ≡ true) → all_below f n ≡ true
+all_passes f n every = (decides_all f (λ i. f i ≡ true) (λ i. passes (f i)) n).1 every
 
 -- all pass, or some number fails
 pub all_or_some : (f : ℕ → Bool) (n : ℕ) → ((k : ℕ) → k < n → f k ≡ true) ⊎ ((k : ℕ) × (k < n) × (f k ≡ false))

@@ -1,5 +1,5 @@
 -- Boxes with the same ends, boxes inside the bounds of a piece, and what is given under a test.
-use Rattle.std.proofs.Common.{◌≡◌, ℕ, ◌<◌, Bool, true, false, cond, ℤ, ◌≤ℤ◌, Some, None, Option, Decides, sym, refl, ◌∙◌, subst, arith}
+use Rattle.std.proofs.Common.{◌≡◌, ℕ, ◌<◌, ◌≤◌, Bool, true, false, cond, ℤ, ◌≤ℤ◌, Some, None, Option, Decides, sym, refl, ◌∙◌, subst, arith}
 use Rattle.std.specs.Bool.{then_some}
 use Rattle.std.proofs.lemmas.Int.{ints}
 use Rattle.std.proofs.lemmas.Bool.Decides.{Decides-like, same_from_decides}
@@ -18,6 +18,10 @@ same_back same = record { from_same = λ d h. sym (same.from_same d h); to_same 
 
 pub same_trans : {k : ℕ} {b c d : Box} → SameBox k b c → SameBox k c d → SameBox k b d
 same_trans one two = record { from_same = λ d h. one.from_same d h ∙ two.from_same d h; to_same = λ d h. one.to_same d h ∙ two.to_same d h }
+
+-- on fewer axes
+pub same_few : {k : ℕ} {b c : Box} (n : ℕ) → k ≤ n → SameBox n b c → SameBox k b c
+same_few n few same = record { from_same = λ d h. same.from_same d (omega arith); to_same = λ d h. same.to_same d (omega arith) }
 
 pub same_holds : {k : ℕ} {b c : Box} (x : Point) → SameBox k b c → Holds k b x → Holds k c x
 same_holds x same held d h =

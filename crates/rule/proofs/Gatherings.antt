@@ -1,10 +1,11 @@
 -- What the sources of boxes give, one more at a time, and that sound sources give a right list.
-use Rattle.std.proofs.Common.{◌≡◌, ℕ, zero, suc, ◌+◌, ◌<◌, Bool, [], ◌∷◌, ◌++◌, length, Some, None, Option, sym, refl, ap, ◌∙◌, subst, ⊎_elim, add-one, arith}
+use Rattle.std.proofs.Common.{◌≡◌, ℕ, zero, suc, ◌+◌, ◌<◌, Bool, true, false, [], ◌∷◌, ◌++◌, length, is_some, Some, None, Option, sym, refl, ap, ◌∙◌, subst, ⊎_elim, add-one, arith}
 use Rattle.std.specs.Option.{option_to_list}
 use Rattle.std.proofs.lemmas.List.{append-nil, length-append, length_push, get_or_append_left, get_or_push}
-use Rattle.std.proofs.lemmas.Bool.{cases_lt, cases_eq}
+use Rattle.std.proofs.lemmas.Bool.{cases_lt, cases_eq, true≢false, false≢true}
 use Rattle.room.specs.Seen.{Room, Point, Box, Holds}
-use Rattle.rule.specs.Gathered.{Sound, gathered}
+use Rattle.room.specs.declared.region.Region.{Region}
+use Rattle.rule.specs.Gathered.{Shows, Sound, gathered}
 use Rattle.rule.specs.Means.{Lists, ListsBox, box_at, no_box}
 
 -- what one source gives
@@ -74,3 +75,12 @@ module _ (source : ℕ → Option Box) where
         let (there, is) = found_at n j b below gives in
         (length (gathered source j), there, subst (λ c. Holds k c x) (sym is) held);
   }
+
+-- what an answer that shows a source tells of it
+pub shown_some : (k : ℕ) (found : Option Box) (answer : Option Region) → Shows k found answer → is_some answer ≡ true → (b : Box) × (found ≡ Some b)
+shown_some k found (Some region) (b, e, same) is = (b, e)
+shown_some k found None shows is = absurd (false≢true is)
+
+pub shown_none : (k : ℕ) (found : Option Box) (answer : Option Region) → Shows k found answer → is_some answer ≡ false → found ≡ None
+shown_none k found (Some region) shows is = absurd (true≢false is)
+shown_none k found None shows is = shows

@@ -1,5 +1,5 @@
 -- Two rules held together: what they list, one after the other, and which placements keep them.
-use Rattle.std.proofs.Common.{◌≡◌, ℕ, ◌+◌, ◌-◌, ◌<◌, ◌≤◌, nat_le, cond, Bool, true, false, ◌||◌, List, ◌++◌, length, Some, None, Option, sym, refl, ap, ◌∙◌, subst, ⊎_elim, arith}
+use Rattle.std.proofs.Common.{◌≡◌, ℕ, ◌+◌, ◌-◌, ◌<◌, ◌≤◌, min, nat_le, cond, Bool, true, false, ◌||◌, List, ◌++◌, length, Some, None, Option, unwrap_or, sym, refl, ap, ◌∙◌, subst, ⊎_elim, arith}
 use Rattle.std.specs.Bool.{then_some}
 use Rattle.std.proofs.lemmas.List.{get_or_append_left, get_or-append_right, length-append}
 use Rattle.std.proofs.lemmas.Bool.{cases_lt, cond-true, cond-false, le-leb, lt-leb, or_cases, or_from, or_left, or_parts, or_right}
@@ -27,6 +27,13 @@ counted_is n m e =
 counted_past : (n : ℕ) → None ≡ counted n → max_listed < n
 counted_past n e = counted_by n None e (λ h s. let z : ◌≡◌ {A = ℕ} 0 1 = cc in absurd (omega arith)) (λ h s. h)
 
+-- the count, or the most that is counted
+pub counted_or : (n first : ℕ) (o : Option ℕ) → first ≡ unwrap_or o max_listed → o ≡ counted n → first ≡ min n max_listed
+counted_or n first o is e =
+    counted_by n o e
+    (λ h s. is ∙ ap (λ t. unwrap_or t max_listed) s ∙ omega arith)
+    (λ h s. is ∙ ap (λ t. unwrap_or t max_listed) s ∙ omega arith)
+
 pub some_then : (b : Bool) (n : ℕ) → then_some b n ≡ cond b (Some n) None
 some_then true n = refl
 some_then false n = refl
@@ -48,6 +55,9 @@ module _ (xs ys : List Box) where
 
     pub sum_counted : then_some (nat_le (a + b) max_listed) (a + b) ≡ counted (length (xs ++ ys))
     sum_counted = some_then (nat_le (a + b) max_listed) (a + b) ∙ ap counted sum_is
+
+    pub sum_too_many : max_listed < a + b → None ≡ counted (length (xs ++ ys))
+    sum_too_many many = sym (counted_none (length (xs ++ ys)) (omega (arith, sum_is)))
 
 pub at_left : (xs ys : List Box) (i : ℕ) → i < length xs → box_at (xs ++ ys) i ≡ box_at xs i
 at_left xs ys i h = get_or_append_left xs ys no_box i h

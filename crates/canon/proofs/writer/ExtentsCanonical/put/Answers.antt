@@ -16,8 +16,8 @@ pub returns : goal.returns
 returns c =
     let es = listed c.args.self.now in
     let lengths = rw (take_all c.loop-length.length-index c.as_slice-extents.result.now (omega arith), c.as_slice-extents.ensures.items) at c.loop-length.invariant in
-    let ends = rw (take_all c.loop-span.span-index c.as_slice-extents.result.now (omega arith), c.as_slice-extents.ensures.items) at c.loop-span.invariant in
+    let ends = rw c.as_slice-extents.ensures.items at c.in_ok-put_each.ensures in
     let numbers : flat_map spaced (piece_numbers es) ≡ flat_map (λ e. spaced e.length) es ++ flat_map (λ e. spaced e.span.lower ++ spaced e.span.upper) es =
     rw (flat_map-append, flat_map-map, spaced_pairs (λ e. e.span.lower) (λ e. e.span.upper) es) in
-    let whole : string_bytes c.loop-span.out ++ (10 ∷ []) ≡ string_bytes c.args.out.now ++ piece_line es = rw (ends, lengths, c.in_ok-write.ensures.bytes, numbers) (simp append_assoc) in
+    let whole : string_bytes c.put_each.new.out ++ (10 ∷ []) ≡ string_bytes c.args.out.now ++ piece_line es = rw (ends, lengths, c.in_ok-write.ensures.bytes, numbers) (simp append_assoc) in
     rw whole at c.write-2.ensures.bytes

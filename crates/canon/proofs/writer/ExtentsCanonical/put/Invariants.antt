@@ -5,6 +5,3 @@ use Rattle.canon.proofs.writer.ExtentsCanonical.put.Given as goal
 
 abbrev pub invariant-loop-length : goal.invariant-loop-length
 invariant-loop-length l = string_bytes l.out ≡ string_bytes l.initial.out ++ flat_map (λ e. spaced e.length) (take l.length-index l.extents)
-
-abbrev pub invariant-loop-span : goal.invariant-loop-span
-invariant-loop-span l = string_bytes l.out ≡ string_bytes l.initial.out ++ flat_map (λ e. spaced e.span.lower ++ spaced e.span.upper) (take l.span-index l.extents)

@@ -7,4 +7,4 @@ invariant_of-applied c =
     record { applies = applies_item c.args.self.now c.args.subject.now c.requires.suits _ c.as_slice.ensures.items c.args.source known }
 
 pub returns : goal.returns
-returns c = shows c.args.self.now c.args.subject.now c.requires.suits _ c.as_slice.ensures.items c.args.source c.region.result c.span.result _ _ c.region.ensures c.span.ensures c.holds_any.ensures c.then_some.ensures
+returns c = shows c.args.self.now c.args.subject.now c.requires.suits _ c.as_slice.ensures.items c.args.source c.region.result c.span.result _ _ c.region.ensures.shut c.span.ensures c.holds_any.ensures c.then_some.ensures
