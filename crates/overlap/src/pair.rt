@@ -46,7 +46,7 @@ impl<'a> Pair<'a> {
         ensures lower { result.lower ≡ (pair_box self.now).from axis }
         ensures upper { result.upper ≡ (pair_box self.now).to axis }
     {
-        let bounds = self.other.present.spans[axis];
+        let bounds = &self.other.present.spans[axis];
         Span {
             lower: bounds.upper - self.asked.lengths[axis] + 1,
             upper: bounds.lower + self.other.lengths[axis] - 1,
@@ -72,13 +72,7 @@ impl<'a> Pair<'a> {
     pub fn clashes_at(&self, point: &Point) -> bool
         ensures { result ≡ holds self.now.axes (pair_box self.now) (on_axis point.now.origins) }
     {
-        // a loop: `all` within the loop over the records is compiled to more work
-        for axis in 0..self.axes {
-            if !self.span(axis).holds(point.origins[axis]) {
-                return false;
-            }
-        }
-        true
+        (0..self.axes).all(|axis| self.span(axis).holds(point.origins[axis]))
     }
 
     /// Whether a length of the two is 0 on some axis.
